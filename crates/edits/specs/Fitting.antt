@@ -1,0 +1,21 @@
+-- Whether n bytes from a place on are in a list. The code asks how many places there are for them, and no sum of its own can wrap.
+use mathlib.Core.Bool.{cond}
+use mathlib.Core.List.{List}
+use mathlib.Core.Path.{_≡_}
+use Prim.Native.Nat.{ℕ, _+_, _-_, _<_, _≤_}
+use native.Mathlib.Omega.{arith}
+use borrow.Author.Tests.{le-leb, lt-leb}
+use lib.Dec.{leb}
+use lib.ListN.{length}
+
+-- A field read and an edit are of this form: one thing where the bytes are there, another where they are not.
+module _ {A : Type 0} (s : List ℕ) (at n places : ℕ) (new old : A) (e : places ≡ length s + 1 - n) where
+  pub unfit : places ≤ at → old ≡ cond (leb (at + n) (length s)) new old
+  unfit h =
+      let out : length s < at + n = omega arith in
+      rw (lt-leb (at + n) (length s) out)
+
+  pub fit : at < places → cond (leb (at + n) (length s)) new old ≡ new
+  fit h =
+      let in-s : at + n ≤ length s = omega arith in
+      rw (le-leb (at + n) (length s) in-s)

@@ -1,0 +1,18 @@
+-- Theorems about the definitions of `model` alone. specs/Lib.antt of `model` has the definitions.
+-- First laws of the words: tests, sorted tables, sets, trees, rows by number, questions.
+pub mod Tests
+pub mod Sorted
+pub mod Sets
+pub mod Tree
+pub mod Numbered
+pub mod WellFormed
+pub mod Answers
+-- Then bytes and tables, over any width and any format: an accepted image is the bytes of its tables, well-formed tables survive the trip.
+pub mod Fields
+pub mod Rows
+pub mod Blocks
+pub mod Back
+pub mod There
+-- Last the calls: each keeps the tables well-formed, and from an accepted image leaves an accepted one.
+pub mod Kept
+pub mod Acts

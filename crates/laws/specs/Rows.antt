@@ -1,0 +1,124 @@
+-- Rows of a table, for any format: a row by its number, rows to bytes and back. Each format's own laws are at the end.
+use mathlib.Core.List.{List, [], _∷_, _++_, append-assoc}
+use mathlib.Core.Path.{_≡_, refl, sym, ap, _∙_}
+use Prim.Native.Nat.{ℕ, zero, suc, _+_, _-_, _*_, _<_, _≤_}
+use native.Mathlib.Nat.{add-zero, zero-add, add-comm, zero-mul, suc-mul, le-of-suc-le-suc, not-suc-le-zero}
+use native.Mathlib.Omega.{arith}
+use lib.ListN.{length, getD, take, drop, length-append, length-drop, List·getD-eq-default}
+use lib.Seq.{drop-at, take-add, drop-cons, drop-length, drop-nil}
+use Rattle.model.specs.declared.Table.{Table}
+use Rattle.model.specs.Lists.{All, Bytes, sum}
+use Rattle.model.specs.Image.{Format, size, rowsFrom, rowsIn, joined, fieldsAt, rowBytes, subjectFormat, grantFormat, lineFormat, itemFormat}
+use Rattle.laws.specs.Tests.{All-append}
+use Rattle.laws.specs.WellFormed.{Fit, Fits}
+use Rattle.laws.specs.Fields.{fields-drop, fields-count, fields-fit, fields-there, fields-back, row-length, row-bytes, bytes-drop}
+
+-- What makes a format one: a row is its numbers, and numbers are those of their row.
+pub record Lawful {A : Type 0} (f : Format A) : Type 0 where
+  pub counted : (x : A) → length (f .numbers x) ≡ length (f .widths)
+  pub there : (x : A) → f .row (f .numbers x) ≡ x
+  pub back : (vs : List ℕ) → length vs ≡ length (f .widths) → f .numbers (f .row vs) ≡ vs
+  pub wide : 0 < size f
+
+module _ {A : Type 0} (f : Format A) where
+  pub rows-from-count : (n : ℕ) (s : List ℕ) → length (rowsFrom f n s) ≡ n
+  rows-from-count zero s = refl
+  rows-from-count (suc n) s = ap suc (rows-from-count n (drop (size f) s))
+
+  pub row-from : (n : ℕ) (s : List ℕ) (d : A) (k : ℕ) → k < n → getD (rowsFrom f n s) k d ≡ f .row (fieldsAt (f .widths) s (k * size f))
+  row-from zero s d k h = absurd (not-suc-le-zero h)
+  row-from (suc n) s d zero h = rw (zero-mul (size f))
+  row-from (suc n) s d (suc k) h =
+      rw (row-from n (drop (size f) s) d k (le-of-suc-le-suc h), fields-drop (f .widths) s (size f) (k * size f), suc-mul k (size f), add-comm (size f) (k * size f))
+
+  -- A table's rows by their number.
+
+  pub rows-count : (t : Table) (img : List ℕ) → length (rowsIn f t img) ≡ t .used
+  unfolding rowsIn
+  rows-count t img = rows-from-count (t .used) (drop (t .start) img)
+
+  pub row-in : (t : Table) (img : List ℕ) (d : A) (k : ℕ) → k < t .used
+      → getD (rowsIn f t img) k d ≡ f .row (fieldsAt (f .widths) img (t .start + k * size f))
+  unfolding rowsIn
+  row-in t img d k h = rw (row-from (t .used) (drop (t .start) img) d k h, fields-drop (f .widths) img (t .start) (k * size f))
+
+  pub row-past : (t : Table) (img : List ℕ) (d : A) (k : ℕ) → t .used ≤ k → getD (rowsIn f t img) k d ≡ d
+  row-past t img d k h =
+      let past : length (rowsIn f t img) ≤ k = rw (rows-count t img) h in
+      List·getD-eq-default (rowsIn f t img) d past
+
+  -- Rows to bytes and back.
+
+  pub joined-bytes : (xs : List A) → Bytes (joined f xs)
+  joined-bytes [] = tt
+  joined-bytes (x ∷ xs) =
+      All-append (λ b. b < 256) (rowBytes (f .widths) (f .numbers x)) (joined f xs) (row-bytes (f .widths) (f .numbers x)) (joined-bytes xs)
+
+  module _ (law : Lawful f) where
+    row-long : (x : A) → length (rowBytes (f .widths) (f .numbers x)) ≡ size f
+    row-long x = row-length (f .widths) (f .numbers x) (law .counted x)
+
+    pub joined-length : (xs : List A) → length (joined f xs) ≡ length xs * size f
+    joined-length [] = rw (zero-mul (size f))
+    joined-length (x ∷ xs) = rw (length-append, row-long x, joined-length xs, suc-mul (length xs) (size f), add-comm (size f) (length xs * size f))
+
+    pub rows-there : (xs : List A) (z : List ℕ) → All (Fits f) xs → rowsFrom f (length xs) (joined f xs ++ z) ≡ xs
+    rows-there [] z h = refl
+    rows-there (x ∷ xs) z h =
+        let row : f .row (fieldsAt (f .widths) (rowBytes (f .widths) (f .numbers x) ++ (joined f xs ++ z)) 0) ≡ x =
+        rw (fields-there (f .widths) (f .numbers x) (joined f xs ++ z) (law .counted x) (h .0)) (law .there x) in
+        let rest : drop (size f) (rowBytes (f .widths) (f .numbers x) ++ (joined f xs ++ z)) ≡ joined f xs ++ z =
+        drop-at (rowBytes (f .widths) (f .numbers x)) (joined f xs ++ z) (size f) (row-long x) in
+        rw (append-assoc, row, rest, rows-there xs z (h .1))
+
+    pub rows-back : (n : ℕ) (s : List ℕ) → Bytes s → n * size f ≤ length s → joined f (rowsFrom f n s) ≡ take (n * size f) s
+    rows-back zero s b h = rw (zero-mul (size f))
+    rows-back (suc n) s b h =
+        let whole : size f + n * size f ≤ length s = rw (suc-mul n (size f), add-comm (n * size f) (size f)) at h in
+        let first-room : size f ≤ length s = omega arith in
+        let rest-room : n * size f ≤ length (drop (size f) s) = simp length-drop (omega arith) in
+        let numbers : f .numbers (f .row (fieldsAt (f .widths) s 0)) ≡ fieldsAt (f .widths) s 0 =
+        law .back (fieldsAt (f .widths) s 0) (fields-count (f .widths) s 0) in
+        rw (
+          numbers,
+          fields-back (f .widths) s b first-room,
+          rows-back n (drop (size f) s) (bytes-drop (size f) s b) rest-room,
+          suc-mul n (size f),
+          add-comm (n * size f) (size f),
+          take-add (size f) (n * size f) s,
+        )
+
+    -- What is read from bytes fits its fields.
+    pub rows-fit : (n : ℕ) (s : List ℕ) → Bytes s → All (Fits f) (rowsFrom f n s)
+    rows-fit zero s b = tt
+    rows-fit (suc n) s b = (
+      rw (law .back (fieldsAt (f .widths) s 0) (fields-count (f .widths) s 0)) (fields-fit (f .widths) s 0 b),
+      rows-fit n (drop (size f) s) (bytes-drop (size f) s b),
+    )
+
+-- The elements of a list, one by one, are the list.
+
+abbrev elements : ℕ → ℕ → List ℕ → List ℕ
+elements zero i vs = []
+elements (suc n) i vs = getD vs i 0 ∷ elements n (suc i) vs
+
+elements-all : (n i : ℕ) (vs : List ℕ) → length vs ≡ i + n → elements n i vs ≡ drop i vs
+elements-all zero i vs e =
+    let ends : length vs ≡ i = omega arith in
+    rw (← ends) (sym (drop-length vs))
+elements-all (suc n) i vs e =
+    let more : i < length vs = omega arith in
+    let next : length vs ≡ suc i + n = omega arith in
+    rw (elements-all n (suc i) vs next) (sym (drop-cons vs i 0 more))
+
+pub subject-lawful : (w : ℕ) → Lawful (subjectFormat w)
+subject-lawful w = record { counted = λ x. refl; there = λ x. refl; back = λ vs e. elements-all (length ((subjectFormat w) .widths)) 0 vs e; wide = omega arith }
+
+pub grant-lawful : (w : ℕ) → Lawful (grantFormat w)
+grant-lawful w = record { counted = λ x. refl; there = λ x. refl; back = λ vs e. elements-all (length ((grantFormat w) .widths)) 0 vs e; wide = omega arith }
+
+pub line-lawful : (w : ℕ) → Lawful (lineFormat w)
+line-lawful w = record { counted = λ x. refl; there = λ x. refl; back = λ vs e. elements-all (length ((lineFormat w) .widths)) 0 vs e; wide = omega arith }
+
+pub item-lawful : Lawful itemFormat
+item-lawful = record { counted = λ x. refl; there = λ x. refl; back = λ vs e. elements-all (length (itemFormat .widths)) 0 vs e; wide = omega arith }

@@ -1,0 +1,63 @@
+-- Laws of privilege sets: the positions of what is in either and in both, and what lies within what.
+use mathlib.Core.Bool.{Bool, true, false, _&&_, _||_}
+use mathlib.Core.Path.{_≡_, refl, _∙_}
+use Prim.Native.Nat.{ℕ, zero, suc, _+_, _*_, _/_, _%_, _^_, _-_, _<_, min}
+use native.Mathlib.Nat.{mod-eq-of-lt, mod-lt, pow-suc, mul-suc}
+use native.Mathlib.Omega.{arith}
+use borrow.Author.Tests.{eq-eqb}
+use lib.Arith.{bin-ind}
+use lib.Bits.{and-step, and-shr, or-shr, and-mod, or-mod, and-mask}
+use lib.Dec.{T, eqb, lit<}
+use lib.Pow.{pow-add}
+use Rattle.model.specs.WhoAndWhat.{everything, has, _∪_, _∩_, within}
+use Rattle.laws.specs.Tests.{true-T}
+
+-- A digit is 0 or 1, so what two digits give is read off four cases.
+module _ (f : ℕ → ℕ → ℕ) (test : Bool → Bool → Bool)
+    (at00 : eqb (f 0 0) 1 ≡ test false false) (at01 : eqb (f 0 1) 1 ≡ test false true)
+    (at10 : eqb (f 1 0) 1 ≡ test true false) (at11 : eqb (f 1 1) 1 ≡ test true true) where
+  by-digits : (a b : ℕ) → eqb (f (a % 2) (b % 2)) 1 ≡ test (eqb (a % 2) 1) (eqb (b % 2) 1)
+  by-digits a b = go (a % 2) (b % 2) (mod-lt a (lit< tt)) (mod-lt b (lit< tt))
+    where
+      go : (x y : ℕ) → x < 2 → y < 2 → eqb (f x y) 1 ≡ test (eqb x 1) (eqb y 1)
+      go zero zero h k = at00
+      go zero (suc zero) h k = at01
+      go zero (suc (suc y)) h k = absurd (omega arith)
+      go (suc zero) zero h k = at10
+      go (suc zero) (suc zero) h k = at11
+      go (suc zero) (suc (suc y)) h k = absurd (omega arith)
+      go (suc (suc x)) y h k = absurd (omega arith)
+
+pub has-or : (n a b : ℕ) → has n (a ∪ b) ≡ (has n a || has n b)
+unfolding has
+has-or n a b = rw (or-shr a b n, or-mod (a / 2 ^ n) (b / 2 ^ n) 1) (by-digits _∪_ _||_ refl refl refl refl (a / 2 ^ n) (b / 2 ^ n))
+
+pub has-and : (n a b : ℕ) → has n (a ∩ b) ≡ (has n a && has n b)
+unfolding has
+has-and n a b = rw (and-shr a b n, and-mod (a / 2 ^ n) (b / 2 ^ n) 1) (by-digits _∩_ _&&_ refl refl refl refl (a / 2 ^ n) (b / 2 ^ n))
+
+-- What is in both lies within the second: by the last digit, and by halves.
+pub and-twice : (a b : ℕ) → (a ∩ b) ∩ b ≡ a ∩ b
+and-twice = bin-ind (λ (a : ℕ). (b : ℕ) → (a ∩ b) ∩ b ≡ a ∩ b) (λ b. refl) step
+  where
+    step : (a : ℕ) → ((b : ℕ) → (a / 2 ∩ b) ∩ b ≡ a / 2 ∩ b) → (b : ℕ) → (a ∩ b) ∩ b ≡ a ∩ b
+    step a ih b =
+        let halves : (a ∩ b) / 2 ≡ a / 2 ∩ b / 2 = and-shr a b 1 in
+        omega (arith, and-step a b, rw halves at (and-step (a ∩ b) b), ih (b / 2))
+
+pub both-within : (a b : ℕ) → T (within (a ∩ b) b)
+both-within a b = true-T (within (a ∩ b) b) (eq-eqb ((a ∩ b) ∩ b) (a ∩ b) (and-twice a b))
+
+-- A set of k positions lies within them all.
+pub and-all : (k v : ℕ) → v < 2 ^ k → v ∩ (2 ^ k - 1) ≡ v
+and-all k v h = and-mask v k ∙ mod-eq-of-lt h
+
+-- a field of w bytes has 8 * w positions
+pub bytes-positions : (w : ℕ) → 256 ^ w ≡ 2 ^ (8 * w)
+bytes-positions zero = refl
+bytes-positions (suc w) = rw (pow-suc, mul-suc 8 w, pow-add, bytes-positions w)
+
+pub within-everything : (w v : ℕ) → v < 256 ^ w → T (within v (everything w))
+within-everything w v h =
+    let whole : v ∩ everything w ≡ v = rw (bytes-positions w) (and-all (8 * w) v (rw (bytes-positions w) at h)) in
+    true-T (within v (everything w)) (eq-eqb (v ∩ everything w) v whole)

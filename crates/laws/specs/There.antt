@@ -1,0 +1,236 @@
+-- Well-formed tables survive the trip through bytes, and their bytes are an accepted image.
+use mathlib.Core.Bool.{Bool, _&&_}
+use mathlib.Core.List.{List, [], _∷_, _++_}
+use mathlib.Core.Path.{_≡_, refl, sym, ap, _∙_}
+use Prim.Native.Nat.{ℕ, zero, suc, _+_, _*_, _^_, _<_, _≤_}
+use native.Mathlib.Nat.{add-zero, add-assoc, mul-one, mul-le-mul-left, le-trans}
+use native.Mathlib.Omega.{arith}
+use borrow.Author.Tests.{eq-eqb}
+use lib.Dec.{T, leb, eqb, le→leb, eqb-refl}
+use lib.ListN.{length, getD, take, drop, replicate, length-append}
+use lib.Seq.{drop-at, drop-drop}
+use Rattle.model.specs.declared.Layout.{Layout}
+use Rattle.model.specs.Lists.{All, Bytes, allOf}
+use Rattle.model.specs.Image.{Tables, Format, Block, size, widthIn, layoutOf, tablesBy, tables, rowsIn, subjectFormat, grantFormat, lineFormat, itemFormat, headerWidths, headerSize, fieldAt, fieldsAt, rowBytes, headerOf, bodyOf, blocks, blockOf, encode, layoutRules, unusedRules}
+use Rattle.model.specs.Questions.{imageQuestions, check}
+use Rattle.model.specs.Sequences.{Accepted}
+use Rattle.laws.specs.Tests.{true-T, and-i, all-yes, All-append}
+use Rattle.laws.specs.WellFormed.{WellFormed, Passed, Fit, extents}
+use Rattle.laws.specs.Fields.{fields-there, row-length, row-bytes}
+use Rattle.laws.specs.Rows.{Lawful, subject-lawful, grant-lawful, line-lawful, item-lawful}
+use Rattle.laws.specs.Blocks.{Holds, holds-from, block-used, block-extent, block-length, block-bytes}
+use Rattle.laws.specs.Answers.{first-passed}
+
+-- Blocks in a row: their header has numbers that fit, and their bytes are as long as they say.
+
+record Sized (b : Block) : Type 0 where
+  used-few : b .used ≤ b .extent
+  long : length (b .bytes) ≡ b .extent
+  are-bytes : Bytes (b .bytes)
+
+header-fits : (at : ℕ) (bs : List Block) → All Sized bs → at + extents bs < 256 ^ 4 → All (λ v. v < 256 ^ 4) (headerOf at bs)
+header-fits at [] s h = (omega arith, tt)
+header-fits at (b ∷ bs) s h =
+    let few : b .used ≤ b .extent = s .0 .used-few in
+    (omega arith, (omega arith, header-fits (at + b .extent) bs (s .1) (omega arith)))
+
+fit-same : (w : ℕ) (vs : List ℕ) → All (λ v. v < 256 ^ w) vs → Fit (replicate (length vs) w) vs
+fit-same w [] h = tt
+fit-same w (v ∷ vs) h = (h .0, fit-same w vs (h .1))
+
+body-length : (bs : List Block) → All Sized bs → length (bodyOf bs) ≡ extents bs
+body-length [] s = refl
+body-length (b ∷ bs) s = rw (length-append, s .0 .long, body-length bs (s .1))
+
+body-bytes : (bs : List Block) → All Sized bs → Bytes (bodyOf bs)
+body-bytes [] s = tt
+body-bytes (b ∷ bs) s = All-append (λ x. x < 256) (b .bytes) (bodyOf bs) (s .0 .are-bytes) (body-bytes bs (s .1))
+
+sized : {A : Type 0} (f : Format A) (law : Lawful f) (room : ℕ) (xs : List A) → length xs ≤ room → Sized (blockOf f room xs)
+sized f law room xs few =
+    let wide : 1 ≤ size f = law .wide in
+    let more : room * 1 ≤ room * size f = mul-le-mul-left room wide in
+    record {
+      used-few = rw (block-used f room xs, block-extent f room xs) (le-trans few (rw mul-one at more));
+      long = block-length f law room xs few ∙ sym (block-extent f room xs);
+      are-bytes = block-bytes f room xs;
+    }
+
+-- The layout that the nine numbers of a header are.
+abbrev layoutFrom : List ℕ → Layout
+layoutFrom h =
+    record {
+      subjects = record { used = getD h 0 0; start = getD h 1 0; end = getD h 3 0 };
+      grants = record { used = getD h 2 0; start = getD h 3 0; end = getD h 5 0 };
+      lines = record { used = getD h 4 0; start = getD h 5 0; end = getD h 7 0 };
+      items = record { used = getD h 6 0; start = getD h 7 0; end = getD h 8 0 };
+    }
+
+layout-from : (img : List ℕ) → layoutOf img ≡ layoutFrom (fieldsAt headerWidths img 0)
+unfolding layoutOf
+layout-from img = refl
+
+-- what stands behind a block
+next-block : (img : List ℕ) (at : ℕ) (b : Block) (rest : List ℕ) → Sized b → drop at img ≡ b .bytes ++ rest → drop (at + b .extent) img ≡ rest
+next-block img at b rest s e = sym (drop-drop (b .extent) at img) ∙ ap (drop (b .extent)) e ∙ drop-at (b .bytes) rest (b .extent) (s .long)
+
+module _ (t : Tables) (good : WellFormed t) where
+  abbrev w : ℕ
+  w = widthIn t
+
+  sizes : All Sized (blocks t)
+  sizes = (
+    sized (subjectFormat w) (subject-lawful w) (t .room .subjects) (t .subjects) (good .subjects-room),
+    (
+      sized (grantFormat w) (grant-lawful w) (t .room .grants) (t .grants) (good .grants-room),
+      (
+        sized (lineFormat w) (line-lawful w) (t .room .lines) (t .lines) (good .lines-room),
+        (sized itemFormat item-lawful (t .room .items) (t .items) (good .items-room), tt),
+      ),
+    ),
+  )
+
+  front : List ℕ
+  front = rowBytes headerWidths (headerOf headerSize (blocks t))
+
+  front-length : length front ≡ headerSize
+  unfolding front
+  front-length = row-length headerWidths (headerOf headerSize (blocks t)) refl
+
+  header-there : fieldsAt headerWidths (encode t) 0 ≡ headerOf headerSize (blocks t)
+  unfolding encode
+  header-there =
+      fields-there headerWidths (headerOf headerSize (blocks t)) (bodyOf (blocks t)) refl
+      (fit-same 4 (headerOf headerSize (blocks t)) (header-fits headerSize (blocks t) sizes (omega (arith, good .short))))
+
+  abbrev lay : Layout
+  lay = layoutFrom (headerOf headerSize (blocks t))
+
+  layout-there : layoutOf (encode t) ≡ lay
+  layout-there = layout-from (encode t) ∙ ap layoutFrom header-there
+
+  -- Where each block stands.
+
+  abbrev blocks-from : ℕ → List Block
+  blocks-from k = drop k (blocks t)
+
+  abbrev block : ℕ → Block
+  block k = getD (blocks t) k (record { used = 0; extent = 0; bytes = [] })
+
+  body-from : drop headerSize (encode t) ≡ bodyOf (blocks t)
+  unfolding encode front
+  body-from = drop-at front (bodyOf (blocks t)) headerSize front-length
+
+  grants-from : drop (lay .grants .start) (encode t) ≡ bodyOf (blocks-from 1)
+  grants-from = next-block (encode t) headerSize (block 0) (bodyOf (blocks-from 1)) (sizes .0) body-from
+
+  lines-from : drop (lay .lines .start) (encode t) ≡ bodyOf (blocks-from 2)
+  lines-from = next-block (encode t) (lay .grants .start) (block 1) (bodyOf (blocks-from 2)) (sizes .1 .0) grants-from
+
+  items-from : drop (lay .items .start) (encode t) ≡ bodyOf (blocks-from 3)
+  items-from = next-block (encode t) (lay .lines .start) (block 2) (bodyOf (blocks-from 3)) (sizes .1 .1 .0) lines-from
+
+  subjects-hold : Holds (subjectFormat w) (t .room .subjects) (t .subjects) (lay .subjects) (encode t)
+  subjects-hold =
+      holds-from (subjectFormat w) (subject-lawful w) (t .room .subjects) (t .subjects) (good .subjects-room) (encode t) headerSize (bodyOf (blocks-from 1)) body-from
+      (good .subjects-fit)
+
+  grants-hold : Holds (grantFormat w) (t .room .grants) (t .grants) (lay .grants) (encode t)
+  grants-hold =
+      holds-from (grantFormat w) (grant-lawful w) (t .room .grants) (t .grants) (good .grants-room) (encode t) (lay .grants .start) (bodyOf (blocks-from 2)) grants-from
+      (good .grants-fit)
+
+  lines-hold : Holds (lineFormat w) (t .room .lines) (t .lines) (lay .lines) (encode t)
+  lines-hold =
+      holds-from (lineFormat w) (line-lawful w) (t .room .lines) (t .lines) (good .lines-room) (encode t) (lay .lines .start) (bodyOf (blocks-from 3)) lines-from
+      (good .lines-fit)
+
+  items-hold : Holds itemFormat (t .room .items) (t .items) (lay .items) (encode t)
+  items-hold =
+      holds-from itemFormat item-lawful (t .room .items) (t .items) (good .items-room) (encode t) (lay .items .start) (bodyOf (blocks-from 4)) items-from
+      (good .items-fit)
+
+  tables-by : tablesBy lay (encode t) ≡ t
+  unfolding tablesBy
+  tables-by =
+      λ i.
+      record {
+        subjects = subjects-hold .rows-are i;
+        grants = grants-hold .rows-are i;
+        lines = lines-hold .rows-are i;
+        items = items-hold .rows-are i;
+        room = record { subjects = subjects-hold .room-is i; grants = grants-hold .room-is i; lines = lines-hold .room-is i; items = items-hold .room-is i };
+      }
+
+  pub tables-there : tables (encode t) ≡ t
+  tables-there = ap (λ (l : Layout). tablesBy l (encode t)) layout-there ∙ tables-by
+
+  total-end : lay .items .end ≡ headerSize + extents (blocks t)
+  total-end = omega arith
+
+  encode-length : length (encode t) ≡ headerSize + extents (blocks t)
+  unfolding encode front
+  encode-length = rw (length-append front (bodyOf (blocks t)), body-length (blocks t) sizes) (ap (λ (n : ℕ). n + extents (blocks t)) front-length)
+
+  layout-right : T (allOf (layoutRules lay (encode t)))
+  unfolding layoutRules
+  layout-right =
+      all-yes (layoutRules lay (encode t)) (
+        true-T _ (eq-eqb (lay .items .end) (length (encode t)) (total-end ∙ sym encode-length)),
+        (
+          tt,
+          (
+            subjects-hold .lies-right,
+            (
+              grants-hold .lies-right,
+              (
+                lines-hold .lies-right,
+                (
+                  items-hold .lies-right,
+                  (le→leb 1 (lay .subjects .used) (rw (block-used (subjectFormat w) (t .room .subjects) (t .subjects)) (good .custodian-there)), tt),
+                ),
+              ),
+            ),
+          ),
+        ),
+      )
+
+  unused-right : T (allOf (unusedRules lay (encode t)))
+  unfolding unusedRules
+  unused-right =
+      all-yes (unusedRules lay (encode t))
+      (subjects-hold .unused-zero, (grants-hold .unused-zero, (lines-hold .unused-zero, (items-hold .unused-zero, tt))))
+
+  encode-bytes : Bytes (encode t)
+  unfolding encode
+  encode-bytes =
+      All-append (λ x. x < 256) (rowBytes headerWidths (headerOf headerSize (blocks t))) (bodyOf (blocks t)) (row-bytes headerWidths (headerOf headerSize (blocks t)))
+      (body-bytes (blocks t) sizes)
+
+  questions-passed : Passed (imageQuestions (encode t))
+  unfolding imageQuestions
+  questions-passed = (
+    and-i (leb 36 (length (encode t))) (leb (length (encode t)) 65536)
+        (le→leb 36 (length (encode t)) (omega (arith, encode-length)))
+        (le→leb (length (encode t)) 65536 (omega (arith, encode-length, good .short))),
+    (
+      rw layout-there layout-right,
+      (
+        rw tables-there (good .subjects-hold),
+        (
+          rw tables-there (good .items-hold),
+          (
+            rw tables-there (good .lines-hold),
+            (
+              rw tables-there (good .grants-hold),
+              (rw layout-there unused-right, tt),
+            ),
+          ),
+        ),
+      ),
+    ),
+  )
+
+  pub encode-accepted : Accepted (encode t)
+  unfolding check
+  encode-accepted = record { bytes = encode-bytes; checked = first-passed (imageQuestions (encode t)) questions-passed }

@@ -1,0 +1,43 @@
+-- Well-formed tables: what questions 2 to 6 ask of tables, and that every number fits its field. An accepted image has such tables, and the bytes of
+-- such tables are an accepted image.
+use mathlib.Core.List.{List, [], _∷_}
+use Prim.Native.Nat.{ℕ, _+_, _*_, _^_, _<_, _≤_}
+use lib.ListN.{length}
+use lib.Dec.{T}
+use Rattle.model.specs.Lists.{All}
+use Rattle.model.specs.Image.{Format, Tables, Block, size, widthIn, subjectFormat, grantFormat, lineFormat, itemFormat, headerSize, blocks, subjectsHold, itemsHold, linesHold, grantsHold}
+use Rattle.model.specs.Questions.{Question}
+
+-- each number is below 256 to the power of its field's bytes
+abbrev pub Fit : List ℕ → List ℕ → Type 0
+Fit [] vs = Unit
+Fit (w ∷ ws) [] = ⊥
+Fit (w ∷ ws) (v ∷ vs) = (v < 256 ^ w) × Fit ws vs
+
+abbrev pub Fits : {A : Type 0} → Format A → A → Type 0
+Fits f x = Fit (f .widths) (f .numbers x)
+
+-- the bytes of blocks
+abbrev pub extents : List Block → ℕ
+extents [] = 0
+extents (b ∷ bs) = b .extent + extents bs
+
+pub record WellFormed (t : Tables) : Type 0 where
+  pub custodian-there : 1 ≤ length (t .subjects)
+  pub subjects-room : length (t .subjects) ≤ t .room .subjects
+  pub grants-room : length (t .grants) ≤ t .room .grants
+  pub lines-room : length (t .lines) ≤ t .room .lines
+  pub items-room : length (t .items) ≤ t .room .items
+  pub short : headerSize + extents (blocks t) ≤ 65536
+  pub subjects-fit : All (Fits (subjectFormat (widthIn t))) (t .subjects)
+  pub grants-fit : All (Fits (grantFormat (widthIn t))) (t .grants)
+  pub lines-fit : All (Fits (lineFormat (widthIn t))) (t .lines)
+  pub items-fit : All (Fits itemFormat) (t .items)
+  pub subjects-hold : T (subjectsHold t)
+  pub items-hold : T (itemsHold t)
+  pub lines-hold : T (linesHold t)
+  pub grants-hold : T (grantsHold t)
+
+-- every question of a list is answered yes
+abbrev pub Passed : List Question → Type 0
+Passed = All (λ q. T (q .answer))

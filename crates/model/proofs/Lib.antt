@@ -1,0 +1,2 @@
+pub mod ConstantTable
+pub mod Positions

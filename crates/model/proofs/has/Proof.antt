@@ -1,0 +1,14 @@
+-- `model::has` meets its contract: the set meets the mask of the position exactly where it has the position.
+use borrow.Author.Needs.{needs}
+use Rattle.model.proofs.Positions.{meets}
+use Rattle.model.proofs.has.Statement.{statement}
+use Rattle.model.proofs.has.Tie as tie
+
+mask-requires : tie.Need-mask-requires
+mask-requires c κs = search needs
+
+returns : tie.Need-returns
+returns c = meets _ _ _ (search needs) (c .mask .ensures)
+
+pub has-spec : {M : Type 1} → statement M
+has-spec = tie.close (tie.spec mask-requires returns)

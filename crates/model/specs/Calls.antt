@@ -1,0 +1,103 @@
+-- Document 01, "The calls": what each answers and what it leaves, where it is not refused. Numbers are those of the call's arguments, in its order.
+use mathlib.Core.Bool.{Bool, true, false, _&&_, not, cond}
+use mathlib.Core.List.{List, [], _∷_, _++_}
+use Prim.Native.Nat.{ℕ, zero, suc, _+_, _*_}
+use lib.ListN.{length, set}
+use lib.Dec.{eqb, ltb}
+use Rattle.model.specs.declared.SubjectRow.{SubjectRow}
+use Rattle.model.specs.declared.GrantRow.{GrantRow}
+use Rattle.model.specs.declared.LineRow.{LineRow}
+use Rattle.model.specs.declared.ItemRow.{ItemRow}
+use Rattle.model.specs.Lists.{select}
+use Rattle.model.specs.Sorted.{put, cut}
+use Rattle.model.specs.WhoAndWhat.{custodian, editList, has, _∩_}
+use Rattle.model.specs.Image.{Tables, subjectRow, grantRow, lineRow, itemRow, grantKey, lineKey, privilegesIn, itemIn, subjectUsed}
+use Rattle.model.specs.Permission.{operationSet, permissionSet}
+
+-- The calls that only ask and whose result is decided.
+pub data Ask : Type 0 where
+  checkImage : Ask
+  operationSetOf : (subject role : ℕ) → Ask
+  permissionSetOf : (subject role item : ℕ) → Ask
+  countLines : (list : ℕ) → Ask
+
+-- The calls that write the image.
+pub data Change : Type 0 where
+  defineSubject : (caller role parent privileges : ℕ) → Change
+  setGrant : (caller receiver role domain privileges : ℕ) → Change
+  removeGrant : (caller receiver role : ℕ) → Change
+  setLine : (caller role list kind subject privileges : ℕ) → Change
+  removeLine : (caller role list kind subject : ℕ) → Change
+  createItem : (caller role list flags : ℕ) → Change
+  bind : (caller item list : ℕ) → Change
+  handOver : (caller item newOwner : ℕ) → Change
+
+-- Lines of a list: its rows, and the number of rows that stand before them in the table.
+abbrev pub rowsOf : ℕ → List LineRow → List LineRow
+rowsOf a lines = select (λ l. eqb (l .list .0) a) lines
+
+abbrev pub rowsBefore : ℕ → List LineRow → List LineRow
+rowsBefore a lines = select (λ l. ltb (l .list .0) a) lines
+
+-- Editor search: s may be named as an editor of list a.
+abbrev pub isEditor : Tables → ℕ → ℕ → Bool
+isEditor t a s = subjectUsed (t .subjects) s && not (eqb s custodian) && has editList (permissionSet t s 0 a)
+
+-- The result of a call that asks.
+unfoldable pub told : Tables → Ask → ℕ
+told t checkImage = 0
+told t (operationSetOf s r) = operationSet t s r
+told t (permissionSetOf s r i) = permissionSet t s r i
+told t (countLines a) = length (rowsOf a (t .lines))
+
+-- One table anew, the others as they are.
+
+abbrev pub withSubjects : Tables → List SubjectRow → Tables
+withSubjects t rows = record { subjects = rows; grants = t .grants; lines = t .lines; items = t .items; room = t .room }
+
+abbrev pub withGrants : Tables → List GrantRow → Tables
+withGrants t rows = record { subjects = t .subjects; grants = rows; lines = t .lines; items = t .items; room = t .room }
+
+abbrev pub withLines : Tables → List LineRow → Tables
+withLines t rows = record { subjects = t .subjects; grants = t .grants; lines = rows; items = t .items; room = t .room }
+
+abbrev pub withItems : Tables → List ItemRow → Tables
+withItems t rows = record { subjects = t .subjects; grants = t .grants; lines = t .lines; items = rows; room = t .room }
+
+-- the items with item i anew
+abbrev pub setItem : List ItemRow → ℕ → ItemRow → List ItemRow
+setItem rows zero r = rows
+setItem rows (suc n) r = set rows n r
+
+-- an item with another list, and with another owner
+abbrev pub withList : ItemRow → ℕ → ItemRow
+withList i a = itemRow (i .owner .0) a (i .flags)
+
+abbrev pub withOwner : ItemRow → ℕ → ItemRow
+withOwner i o = itemRow o (i .list .0) (i .flags)
+
+-- Define subject stores the privileges as given for the custodian, otherwise what the caller's own row also has.
+abbrev pub stored : Tables → ℕ → ℕ → ℕ
+stored t c v = cond (eqb c custodian) v (v ∩ privilegesIn (t .subjects) c)
+
+-- The tables after a call.
+unfoldable pub after : Tables → Change → Tables
+after t (defineSubject c r p v) = withSubjects t (t .subjects ++ subjectRow p (stored t c v) c ∷ [])
+after t (setGrant c s r d v) = withGrants t (put grantKey (grantRow s r c d v) (t .grants))
+after t (removeGrant c s r) = withGrants t (cut grantKey (s ∷ r ∷ []) (t .grants))
+after t (setLine c r a k s v) = withLines t (put lineKey (lineRow a k s v) (t .lines))
+after t (removeLine c r a k s) = withLines t (cut lineKey (a ∷ k ∷ s ∷ []) (t .lines))
+after t (createItem c r a f) = withItems t (t .items ++ itemRow c a f ∷ [])
+after t (bind c i a) = withItems t (setItem (t .items) i (withList (itemIn (t .items) i) a))
+after t (handOver c i o) = withItems t (setItem (t .items) i (withOwner (itemIn (t .items) i) o))
+
+-- Its result: the new subject's number and the new item's, and 0 where no result is named.
+unfoldable pub made : Tables → Change → ℕ
+made t (defineSubject c r p v) = length (t .subjects)
+made t (setGrant c s r d v) = 0
+made t (removeGrant c s r) = 0
+made t (setLine c r a k s v) = 0
+made t (removeLine c r a k s) = 0
+made t (createItem c r a f) = suc (length (t .items))
+made t (bind c i a) = 0
+made t (handOver c i o) = 0

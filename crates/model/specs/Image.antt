@@ -1,0 +1,339 @@
+-- Document 01, "The image": bytes to tables, tables to bytes, and the rules of the rows.
+use mathlib.Core.Bool.{Bool, true, false, _&&_, _||_, not, cond}
+use mathlib.Core.List.{List, [], _∷_, _++_}
+use Prim.Native.Nat.{ℕ, zero, suc, _+_, _-_, _*_, _/_, _%_}
+use lib.ListN.{length, getD, take, drop, replicate}
+use lib.Dec.{eqb, ltb, leb}
+use Rattle.model.specs.declared.SubjectRow.{SubjectRow}
+use Rattle.model.specs.declared.GrantRow.{GrantRow}
+use Rattle.model.specs.declared.LineRow.{LineRow}
+use Rattle.model.specs.declared.ItemRow.{ItemRow}
+use Rattle.model.specs.declared.Table.{Table}
+use Rattle.model.specs.declared.Layout.{Layout}
+use Rattle.model.specs.Lists.{allOf, sum, every, everyNumbered, zeros}
+use Rattle.model.specs.Sorted.{ascending}
+use Rattle.model.specs.Tree.{inTree}
+use Rattle.model.specs.WhoAndWhat.{everything, has, within}
+
+-- The fields. A number of k bytes, little-endian; a field that runs past the end is 0.
+
+abbrev pub value : List ℕ → ℕ
+value [] = 0
+value (b ∷ bs) = b + 256 * value bs
+
+abbrev pub bytesOf : ℕ → ℕ → List ℕ
+bytesOf zero v = []
+bytesOf (suc k) v = v % 256 ∷ bytesOf k (v / 256)
+
+unfoldable pub fieldAt : ℕ → List ℕ → ℕ → ℕ
+fieldAt k s at = cond (leb (at + k) (length s)) (value (take k (drop at s))) 0
+
+-- A row is its fields, one after the other. ws are the fields' bytes.
+
+abbrev pub fieldsAt : List ℕ → List ℕ → ℕ → List ℕ
+fieldsAt [] s at = []
+fieldsAt (w ∷ ws) s at = fieldAt w s at ∷ fieldsAt ws s (at + w)
+
+abbrev pub rowBytes : List ℕ → List ℕ → List ℕ
+rowBytes [] vs = []
+rowBytes (w ∷ ws) [] = []
+rowBytes (w ∷ ws) (v ∷ vs) = bytesOf w v ++ rowBytes ws vs
+
+-- How a row of one table is written: the bytes of its fields, the numbers in them, and the row with these numbers.
+pub record Format (A : Type 0) : Type 0 where
+  pub widths : List ℕ
+  pub numbers : A → List ℕ
+  pub row : List ℕ → A
+
+abbrev pub size : {A : Type 0} → Format A → ℕ
+size f = sum (f .widths)
+
+abbrev pub subjectRow : ℕ → ℕ → ℕ → SubjectRow
+subjectRow parent privileges creator = record { parent = record { 0 = parent }; privileges = privileges; creator = record { 0 = creator } }
+
+abbrev pub grantRow : ℕ → ℕ → ℕ → ℕ → ℕ → GrantRow
+grantRow receiver role grantor domain privileges =
+    record { receiver = record { 0 = receiver }; role = record { 0 = role }; grantor = record { 0 = grantor }; domain = record { 0 = domain }; privileges = privileges }
+
+abbrev pub lineRow : ℕ → ℕ → ℕ → ℕ → LineRow
+lineRow list kind subject privileges = record { list = record { 0 = list }; kind = kind; subject = record { 0 = subject }; privileges = privileges }
+
+abbrev pub itemRow : ℕ → ℕ → ℕ → ItemRow
+itemRow owner list flags = record { owner = record { 0 = owner }; list = record { 0 = list }; flags = flags }
+
+-- the rows of zeros
+
+abbrev pub noSubject : SubjectRow
+noSubject = subjectRow 0 0 0
+
+abbrev pub noGrant : GrantRow
+noGrant = grantRow 0 0 0 0 0
+
+abbrev pub noLine : LineRow
+noLine = lineRow 0 0 0 0
+
+abbrev pub noItem : ItemRow
+noItem = itemRow 0 0 0
+
+-- w is the bytes of a privilege field
+abbrev pub subjectFormat : ℕ → Format SubjectRow
+subjectFormat w =
+    record {
+      widths = 4 ∷ w ∷ 4 ∷ [];
+      numbers = λ s. s .parent .0 ∷ s .privileges ∷ s .creator .0 ∷ [];
+      row = λ v. subjectRow (getD v 0 0) (getD v 1 0) (getD v 2 0);
+    }
+
+abbrev pub grantFormat : ℕ → Format GrantRow
+grantFormat w =
+    record {
+      widths = 4 ∷ 4 ∷ 4 ∷ 4 ∷ w ∷ [];
+      numbers = λ g. g .receiver .0 ∷ g .role .0 ∷ g .grantor .0 ∷ g .domain .0 ∷ g .privileges ∷ [];
+      row = λ v. grantRow (getD v 0 0) (getD v 1 0) (getD v 2 0) (getD v 3 0) (getD v 4 0);
+    }
+
+abbrev pub lineFormat : ℕ → Format LineRow
+lineFormat w =
+    record {
+      widths = 4 ∷ 4 ∷ 4 ∷ w ∷ [];
+      numbers = λ l. l .list .0 ∷ l .kind ∷ l .subject .0 ∷ l .privileges ∷ [];
+      row = λ v. lineRow (getD v 0 0) (getD v 1 0) (getD v 2 0) (getD v 3 0);
+    }
+
+abbrev pub itemFormat : Format ItemRow
+itemFormat =
+    record {
+      widths = 4 ∷ 4 ∷ 4 ∷ [];
+      numbers = λ i. i .owner .0 ∷ i .list .0 ∷ i .flags ∷ [];
+      row = λ v. itemRow (getD v 0 0) (getD v 1 0) (getD v 2 0);
+    }
+
+-- The capacities of the four tables, in rows. No call changes them.
+pub record Rooms : Type 0 where
+  pub subjects : ℕ
+  pub grants : ℕ
+  pub lines : ℕ
+  pub items : ℕ
+
+-- The four tables: the rows in use, and how many rows there is room for.
+pub record Tables : Type 0 where
+  pub subjects : List SubjectRow
+  pub grants : List GrantRow
+  pub lines : List LineRow
+  pub items : List ItemRow
+  pub room : Rooms
+
+-- Bytes to tables. The header: used rows and offset of subjects, then of grants, lines and items, then the total length.
+
+abbrev pub headerWidths : List ℕ
+headerWidths = replicate 9 4
+
+abbrev pub headerSize : ℕ
+headerSize = sum headerWidths
+
+-- the header's fields, numbered from 0
+abbrev pub headerField : List ℕ → ℕ → ℕ
+headerField img n = fieldAt 4 img (n * 4)
+
+unfoldable pub layoutOf : List ℕ → Layout
+layoutOf img =
+    record {
+      subjects = record { used = headerField img 0; start = headerField img 1; end = headerField img 3 };
+      grants = record { used = headerField img 2; start = headerField img 3; end = headerField img 5 };
+      lines = record { used = headerField img 4; start = headerField img 5; end = headerField img 7 };
+      items = record { used = headerField img 6; start = headerField img 7; end = headerField img 8 };
+    }
+
+-- the bytes of a privilege field, in an image and in its tables
+abbrev pub widthOf : Layout → ℕ
+widthOf lay = 4
+
+abbrev pub widthIn : Tables → ℕ
+widthIn t = 4
+
+module _ {A : Type 0} (f : Format A) where
+  -- the first n rows of s
+  abbrev pub rowsFrom : ℕ → List ℕ → List A
+  rowsFrom zero s = []
+  rowsFrom (suc n) s = f .row (fieldsAt (f .widths) s 0) ∷ rowsFrom n (drop (size f) s)
+
+  -- the rows of a table that are in use, and its capacity
+  unfoldable pub rowsIn : Table → List ℕ → List A
+  rowsIn t img = rowsFrom (t .used) (drop (t .start) img)
+
+  abbrev pub capacity : Table → ℕ
+  capacity t = (t .end - t .start) / size f
+
+abbrev pub roomsBy : Layout → Rooms
+roomsBy lay =
+    record {
+      subjects = capacity (subjectFormat (widthOf lay)) (lay .subjects);
+      grants = capacity (grantFormat (widthOf lay)) (lay .grants);
+      lines = capacity (lineFormat (widthOf lay)) (lay .lines);
+      items = capacity itemFormat (lay .items);
+    }
+
+unfoldable pub tablesBy : Layout → List ℕ → Tables
+tablesBy lay img =
+    record {
+      subjects = rowsIn (subjectFormat (widthOf lay)) (lay .subjects) img;
+      grants = rowsIn (grantFormat (widthOf lay)) (lay .grants) img;
+      lines = rowsIn (lineFormat (widthOf lay)) (lay .lines) img;
+      items = rowsIn itemFormat (lay .items) img;
+      room = roomsBy lay;
+    }
+
+abbrev pub tables : List ℕ → Tables
+tables img = tablesBy (layoutOf img) img
+
+-- Tables to bytes. A table's block: its rows in use, then zeros up to its capacity.
+
+pub record Block : Type 0 where
+  pub used : ℕ
+  pub extent : ℕ
+  pub bytes : List ℕ
+
+module _ {A : Type 0} (f : Format A) where
+  abbrev pub joined : List A → List ℕ
+  joined [] = []
+  joined (x ∷ xs) = rowBytes (f .widths) (f .numbers x) ++ joined xs
+
+  unfoldable pub blockOf : ℕ → List A → Block
+  blockOf room rows =
+      record {
+        used = length rows;
+        extent = room * size f;
+        bytes = joined rows ++ replicate (room * size f - length rows * size f) 0;
+      }
+
+abbrev pub blocks : Tables → List Block
+blocks t =
+    blockOf (subjectFormat (widthIn t)) (t .room .subjects) (t .subjects)
+    ∷ blockOf (grantFormat (widthIn t)) (t .room .grants) (t .grants)
+    ∷ blockOf (lineFormat (widthIn t)) (t .room .lines) (t .lines)
+    ∷ blockOf itemFormat (t .room .items) (t .items)
+    ∷ []
+
+-- the header of blocks that start at a byte: used rows and offset of each, then the total length
+abbrev pub headerOf : ℕ → List Block → List ℕ
+headerOf at [] = at ∷ []
+headerOf at (b ∷ bs) = b .used ∷ at ∷ headerOf (at + b .extent) bs
+
+abbrev pub bodyOf : List Block → List ℕ
+bodyOf [] = []
+bodyOf (b ∷ bs) = b .bytes ++ bodyOf bs
+
+unfoldable pub encode : Tables → List ℕ
+encode t = rowBytes headerWidths (headerOf headerSize (blocks t)) ++ bodyOf (blocks t)
+
+-- Rows by number. Item n is row n - 1, and 0 is no item.
+
+abbrev pub subjectIn : List SubjectRow → ℕ → SubjectRow
+subjectIn rows s = getD rows s noSubject
+
+abbrev pub parentIn : List SubjectRow → ℕ → ℕ
+parentIn rows s = subjectIn rows s .parent .0
+
+abbrev pub creatorIn : List SubjectRow → ℕ → ℕ
+creatorIn rows s = subjectIn rows s .creator .0
+
+abbrev pub privilegesIn : List SubjectRow → ℕ → ℕ
+privilegesIn rows s = subjectIn rows s .privileges
+
+abbrev pub subjectUsed : List SubjectRow → ℕ → Bool
+subjectUsed rows s = ltb s (length rows)
+
+abbrev pub itemIn : List ItemRow → ℕ → ItemRow
+itemIn rows zero = noItem
+itemIn rows (suc n) = getD rows n noItem
+
+abbrev pub itemUsed : List ItemRow → ℕ → Bool
+itemUsed rows zero = false
+itemUsed rows (suc n) = ltb n (length rows)
+
+-- flag bit 0: this item is an access list; bit 1: locked
+abbrev pub isList : List ItemRow → ℕ → Bool
+isList rows a = itemUsed rows a && has 0 (itemIn rows a .flags)
+
+abbrev pub isLocked : List ItemRow → ℕ → Bool
+isLocked rows i = has 1 (itemIn rows i .flags)
+
+-- an access list, or 0 for none
+abbrev pub noneOrList : List ItemRow → ℕ → Bool
+noneOrList rows a = eqb a 0 || isList rows a
+
+-- The rules of the rows.
+
+abbrev pub subjectRules : ℕ → List SubjectRow → ℕ → SubjectRow → Bool
+subjectRules w rows zero s = allOf (eqb (s .parent .0) 0 ∷ eqb (s .privileges) (everything w) ∷ eqb (s .creator .0) 0 ∷ [])
+subjectRules w rows (suc n) s =
+    allOf (ltb (s .parent .0) (suc n) ∷ ltb (s .creator .0) (suc n) ∷ within (s .privileges) (privilegesIn rows (s .creator .0)) ∷ [])
+
+abbrev pub grantRules : List SubjectRow → GrantRow → Bool
+grantRules subjects g =
+    allOf
+    (subjectUsed subjects (g .receiver .0)
+    ∷ not (eqb (g .role .0) 0)
+    ∷ subjectUsed subjects (g .grantor .0)
+    ∷ subjectUsed subjects (g .domain .0)
+    ∷ inTree (parentIn subjects) (g .grantor .0) (g .domain .0)
+    ∷ [])
+
+-- kinds 2 and 3 have subject 0
+abbrev pub kindFits : ℕ → ℕ → Bool
+kindFits kind s = leb kind 3 && (leb kind 1 || eqb s 0)
+
+abbrev pub lineRules : List SubjectRow → List ItemRow → LineRow → Bool
+lineRules subjects items l = allOf (isList items (l .list .0) ∷ kindFits (l .kind) (l .subject .0) ∷ subjectUsed subjects (l .subject .0) ∷ [])
+
+abbrev pub itemRules : List SubjectRow → List ItemRow → ℕ → ItemRow → Bool
+itemRules subjects items n i = allOf (subjectUsed subjects (i .owner .0) ∷ noneOrList items (i .list .0) ∷ ltb (i .flags) 4 ∷ [])
+
+abbrev pub grantKey : GrantRow → List ℕ
+grantKey g = g .receiver .0 ∷ g .role .0 ∷ []
+
+abbrev pub lineKey : LineRow → List ℕ
+lineKey l = l .list .0 ∷ l .kind ∷ l .subject .0 ∷ []
+
+unfoldable pub subjectsHold : Tables → Bool
+subjectsHold t = everyNumbered (subjectRules (widthIn t) (t .subjects)) (t .subjects)
+
+unfoldable pub itemsHold : Tables → Bool
+itemsHold t = everyNumbered (λ n. itemRules (t .subjects) (t .items) (suc n)) (t .items)
+
+unfoldable pub linesHold : Tables → Bool
+linesHold t = every (lineRules (t .subjects) (t .items)) (t .lines) && ascending lineKey (t .lines)
+
+unfoldable pub grantsHold : Tables → Bool
+grantsHold t = every (grantRules (t .subjects)) (t .grants) && ascending grantKey (t .grants)
+
+-- The rules of the layout.
+
+module _ {A : Type 0} (f : Format A) where
+  -- the table does not end before it starts, is whole rows, and has room for those in use
+  abbrev pub tableLies : Table → Bool
+  tableLies t = allOf (leb (t .start) (t .end) ∷ eqb ((t .end - t .start) % size f) 0 ∷ leb (t .used) (capacity f t) ∷ [])
+
+  -- the bytes of its rows that are not in use
+  abbrev pub unused : Table → List ℕ → List ℕ
+  unused t img = take (t .end - (t .start + t .used * size f)) (drop (t .start + t .used * size f) img)
+
+unfoldable pub layoutRules : Layout → List ℕ → List Bool
+layoutRules lay img =
+    eqb (lay .items .end) (length img)
+    ∷ eqb (lay .subjects .start) headerSize
+    ∷ tableLies (subjectFormat (widthOf lay)) (lay .subjects)
+    ∷ tableLies (grantFormat (widthOf lay)) (lay .grants)
+    ∷ tableLies (lineFormat (widthOf lay)) (lay .lines)
+    ∷ tableLies itemFormat (lay .items)
+    ∷ leb 1 (lay .subjects .used)
+    ∷ []
+
+-- unused rows are zero
+unfoldable pub unusedRules : Layout → List ℕ → List Bool
+unusedRules lay img =
+    zeros (unused (subjectFormat (widthOf lay)) (lay .subjects) img)
+    ∷ zeros (unused (grantFormat (widthOf lay)) (lay .grants) img)
+    ∷ zeros (unused (lineFormat (widthOf lay)) (lay .lines) img)
+    ∷ zeros (unused itemFormat (lay .items) img)
+    ∷ []

@@ -1,0 +1,58 @@
+-- Words about lists that several sections of document 01 use.
+use mathlib.Core.Bool.{Bool, true, false, _&&_, not, cond}
+use mathlib.Core.List.{List, [], _∷_}
+use mathlib.Core.Option.{Option, none, some}
+use Prim.Native.Nat.{ℕ, suc, _+_, _<_}
+use lib.Dec.{eqb}
+
+-- every test of a list is passed
+abbrev pub allOf : List Bool → Bool
+allOf [] = true
+allOf (b ∷ bs) = b && allOf bs
+
+abbrev pub sum : List ℕ → ℕ
+sum [] = 0
+sum (n ∷ ns) = n + sum ns
+
+module _ {A : Type 0} where
+  -- every row passes a test
+  abbrev pub every : (A → Bool) → List A → Bool
+  every test [] = true
+  every test (x ∷ xs) = test x && every test xs
+
+  -- every row passes a test that sees the row's number too, counted from 0
+  abbrev pub everyNumbered : (ℕ → A → Bool) → List A → Bool
+  everyNumbered test [] = true
+  everyNumbered test (x ∷ xs) = test 0 x && everyNumbered (λ n. test (suc n)) xs
+
+  -- some row passes it
+  abbrev pub someNumbered : (ℕ → A → Bool) → List A → Bool
+  someNumbered test xs = not (everyNumbered (λ n x. not (test n x)) xs)
+
+  -- the rows that pass a test
+  abbrev pub select : (A → Bool) → List A → List A
+  select test [] = []
+  select test (x ∷ xs) = cond (test x) (x ∷ select test xs) (select test xs)
+
+  -- a fact about each row
+  abbrev pub All : (A → Type 0) → List A → Type 0
+  All P [] = Unit
+  All P (x ∷ xs) = P x × All P xs
+
+  -- the first of two that is there
+  abbrev pub orElse : Option A → Option A → Option A
+  orElse none b = b
+  orElse (some a) b = some a
+
+  -- what a test says of a row that may be missing: of a missing one, no
+  abbrev pub ifThere : (A → Bool) → Option A → Bool
+  ifThere test none = false
+  ifThere test (some a) = test a
+
+-- nothing but zeros
+abbrev pub zeros : List ℕ → Bool
+zeros = every (λ b. eqb b 0)
+
+-- each is a byte
+abbrev pub Bytes : List ℕ → Type 0
+Bytes = All (λ b. b < 256)

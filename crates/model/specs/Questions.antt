@@ -1,0 +1,173 @@
+-- Document 01, "Questions before each call": the questions of each call as one list, in the paper's order, and the first no. Then what a call
+-- answers and leaves, for any list of bytes and any numbers.
+use mathlib.Core.Bool.{Bool, true, false, _&&_, _||_, not, cond}
+use mathlib.Core.List.{List, [], _∷_, _++_}
+use mathlib.Core.Logic.{_≢_}
+use mathlib.Core.Option.{Option, none, some}
+use mathlib.Core.Path.{_≡_}
+use Prim.Native.Nat.{ℕ, _+_, _*_}
+use lib.ListN.{length, take, drop}
+use lib.Dec.{T, eqb, ltb, leb}
+use Rattle.model.specs.declared.Answer.{Answer}
+use Rattle.model.specs.Lists.{allOf, someNumbered, ifThere}
+use Rattle.model.specs.Sorted.{find}
+use Rattle.model.specs.Tree.{inTree}
+use Rattle.model.specs.WhoAndWhat.{custodian, neededPosition, has}
+use Rattle.model.specs.Image.{Tables, layoutOf, tables, encode, widthOf, size, lineFormat, grantKey, lineKey, parentIn, subjectUsed, itemIn, itemUsed, isList, isLocked, noneOrList, kindFits, layoutRules, subjectsHold, itemsHold, linesHold, grantsHold, unusedRules}
+use Rattle.model.specs.Permission.{grantOf, operationSet, permissionSet}
+use Rattle.model.specs.Calls.{Ask, Change, rowsOf, rowsBefore, isEditor, told, after, made}
+use Rattle.model.specs.Calls.Ask.{checkImage, operationSetOf, permissionSetOf, countLines}
+use Rattle.model.specs.Calls.Change.{defineSubject, setGrant, removeGrant, setLine, removeLine, createItem, bind, handOver}
+
+pub record Question : Type 0 where
+  pub number : ℕ
+  pub answer : Bool
+
+infix 85 _asks_
+abbrev pub _asks_ : ℕ → Bool → Question
+n asks b = record { number = n; answer = b }
+
+-- the number of the first question that is answered no, or 0
+unfoldable pub firstNo : List Question → ℕ
+firstNo [] = 0
+firstNo (q ∷ qs) = cond (q .answer) (firstNo qs) (q .number)
+
+-- Questions 1 to 7, which concern every call.
+unfoldable pub imageQuestions : List ℕ → List Question
+imageQuestions img =
+    1 asks (leb 36 (length img) && leb (length img) 65536)
+    ∷ 2 asks allOf (layoutRules (layoutOf img) img)
+    ∷ 3 asks subjectsHold (tables img)
+    ∷ 4 asks itemsHold (tables img)
+    ∷ 5 asks linesHold (tables img)
+    ∷ 6 asks grantsHold (tables img)
+    ∷ 7 asks allOf (unusedRules (layoutOf img) img)
+    ∷ []
+
+-- The others, by call.
+
+unfoldable pub askQuestions : Tables → Ask → List Question
+askQuestions t checkImage = []
+askQuestions t (operationSetOf s r) = 10 asks subjectUsed (t .subjects) s ∷ []
+askQuestions t (permissionSetOf s r i) = 10 asks subjectUsed (t .subjects) s ∷ 12 asks itemUsed (t .items) i ∷ []
+askQuestions t (countLines a) = 13 asks isList (t .items) a ∷ []
+
+unfoldable pub editorQuestions : Tables → ℕ → List Question
+editorQuestions t a = 13 asks isList (t .items) a ∷ 20 asks someNumbered (λ s row. isEditor t a s) (t .subjects) ∷ []
+
+-- 16 of define subject: p is in the tree of the caller or of its claimed role's grantor
+abbrev pub inReach : Tables → ℕ → ℕ → ℕ → Bool
+inReach t c r p = inTree (parentIn (t .subjects)) c p || ifThere (λ g. inTree (parentIn (t .subjects)) (g .grantor .0) p) (grantOf t c r)
+
+abbrev pub grantThere : Tables → ℕ → ℕ → Bool
+grantThere t s r = ifThere (λ g. true) (find grantKey (s ∷ r ∷ []) (t .grants))
+
+abbrev pub lineThere : Tables → ℕ → ℕ → ℕ → Bool
+lineThere t a k s = ifThere (λ l. true) (find lineKey (a ∷ k ∷ s ∷ []) (t .lines))
+
+-- the row for (s, r) is there and c is its grantor
+abbrev pub grantedBy : Tables → ℕ → ℕ → ℕ → Bool
+grantedBy t c s r = ifThere (λ g. eqb (g .grantor .0) c) (find grantKey (s ∷ r ∷ []) (t .grants))
+
+unfoldable pub questions : Tables → Change → List Question
+questions t (defineSubject c r p v) =
+    10 asks subjectUsed (t .subjects) c
+    ∷ 11 asks subjectUsed (t .subjects) p
+    ∷ 15 asks has (neededPosition 0) (operationSet t c r)
+    ∷ 16 asks inReach t c r p
+    ∷ 19 asks ltb (length (t .subjects)) (t .room .subjects)
+    ∷ []
+questions t (setGrant c s r d v) =
+    10 asks subjectUsed (t .subjects) c
+    ∷ 11 asks subjectUsed (t .subjects) s
+    ∷ 11 asks subjectUsed (t .subjects) d
+    ∷ 14 asks not (eqb r 0)
+    ∷ 16 asks inTree (parentIn (t .subjects)) c d
+    ∷ 18 asks (not (grantThere t s r) || grantedBy t c s r)
+    ∷ 19 asks (grantThere t s r || ltb (length (t .grants)) (t .room .grants))
+    ∷ []
+questions t (removeGrant c s r) =
+    10 asks subjectUsed (t .subjects) c
+    ∷ 11 asks subjectUsed (t .subjects) s
+    ∷ 14 asks not (eqb r 0)
+    ∷ 17 asks grantThere t s r
+    ∷ 18 asks (grantedBy t c s r || eqb c custodian)
+    ∷ []
+questions t (setLine c r a k s v) =
+    10 asks subjectUsed (t .subjects) c
+    ∷ 11 asks subjectUsed (t .subjects) s
+    ∷ 13 asks isList (t .items) a
+    ∷ 14 asks kindFits k s
+    ∷ 15 asks has (neededPosition 2) (permissionSet t c r a)
+    ∷ 19 asks (lineThere t a k s || ltb (length (t .lines)) (t .room .lines))
+    ∷ []
+questions t (removeLine c r a k s) =
+    10 asks subjectUsed (t .subjects) c
+    ∷ 11 asks subjectUsed (t .subjects) s
+    ∷ 13 asks isList (t .items) a
+    ∷ 14 asks kindFits k s
+    ∷ 15 asks has (neededPosition 3) (permissionSet t c r a)
+    ∷ 17 asks lineThere t a k s
+    ∷ []
+questions t (createItem c r a f) =
+    10 asks subjectUsed (t .subjects) c
+    ∷ 13 asks noneOrList (t .items) a
+    ∷ 14 asks ltb f 4
+    ∷ 15 asks has (neededPosition 1) (operationSet t c r)
+    ∷ 19 asks ltb (length (t .items)) (t .room .items)
+    ∷ []
+questions t (bind c i a) =
+    10 asks subjectUsed (t .subjects) c
+    ∷ 12 asks itemUsed (t .items) i
+    ∷ 13 asks noneOrList (t .items) a
+    ∷ 15 asks (eqb c (itemIn (t .items) i .owner .0) && not (isLocked (t .items) i) || eqb c custodian)
+    ∷ []
+questions t (handOver c i o) =
+    10 asks subjectUsed (t .subjects) c
+    ∷ 11 asks subjectUsed (t .subjects) o
+    ∷ 12 asks itemUsed (t .items) i
+    ∷ 15 asks eqb c custodian
+    ∷ []
+
+-- A refusal has its number and result 0, success number 0 and the result.
+abbrev pub answered : ℕ → ℕ → Answer
+answered n r = record { number = n; result = cond (eqb n 0) r 0 }
+
+-- Check an image.
+unfoldable pub check : List ℕ → ℕ
+check img = firstNo (imageQuestions img)
+
+-- What a call that asks answers.
+unfoldable pub ask : List ℕ → Ask → Answer
+ask img q = answered (firstNo (imageQuestions img ++ askQuestions (tables img) q)) (told (tables img) q)
+
+-- What a call that writes answers, and the image afterwards. A refused call changes no byte.
+pub record Outcome : Type 0 where
+  pub answer : Answer
+  pub image : List ℕ
+
+abbrev pub settle : ℕ → ℕ → List ℕ → List ℕ → Outcome
+settle n r old new = record { answer = answered n r; image = cond (eqb n 0) new old }
+
+unfoldable pub act : List ℕ → Change → Outcome
+act img c = settle (firstNo (imageQuestions img ++ questions (tables img) c)) (made (tables img) c) img (encode (after (tables img) c))
+
+-- Lines of a list: the part of the image with its rows, as its first byte and its length. Refused, or without rows: the empty part at byte 0.
+abbrev pub shows : List ℕ → ℕ → Bool
+shows img a = eqb (ask img (countLines a) .number) 0 && not (eqb (ask img (countLines a) .result) 0)
+
+unfoldable pub partStart : List ℕ → ℕ → ℕ
+partStart img a =
+    cond (shows img a) (layoutOf img .lines .start + length (rowsBefore a (tables img .lines)) * size (lineFormat (widthOf (layoutOf img)))) 0
+
+unfoldable pub partLength : List ℕ → ℕ → ℕ
+partLength img a = cond (shows img a) (length (rowsOf a (tables img .lines)) * size (lineFormat (widthOf (layoutOf img)))) 0
+
+abbrev pub partBytes : List ℕ → ℕ → List ℕ
+partBytes img a = take (partLength img a) (drop (partStart img a) img)
+
+-- Editor search. Its number is decided. Which of several editors its result names is undecided: these properties hold of it.
+pub record EditorAnswer (img : List ℕ) (a : ℕ) (r : Answer) : Type 0 where
+  pub number-decided : r .number ≡ firstNo (imageQuestions img ++ editorQuestions (tables img) a)
+  pub refused : r .number ≢ 0 → r .result ≡ 0
+  pub found : r .number ≡ 0 → T (isEditor (tables img) a (r .result))

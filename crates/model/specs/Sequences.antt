@@ -1,0 +1,127 @@
+-- Document 01, "The sequences of demand 3": followed lists, insiders, strangers, and the claim.
+use mathlib.Core.List.{List, [], _∷_}
+use mathlib.Core.Logic.{_≢_}
+use mathlib.Core.Option.{Option, some}
+use mathlib.Core.Path.{_≡_}
+use Prim.Native.Nat.{ℕ, _<_, _^_}
+use lib.Dec.{T}
+use Rattle.model.specs.declared.GrantRow.{GrantRow}
+use Rattle.model.specs.declared.ItemRow.{ItemRow}
+use Rattle.model.specs.Lists.{All, Bytes}
+use Rattle.model.specs.WhoAndWhat.{custodian, editList, has}
+use Rattle.model.specs.Image.{Tables, tables, itemIn, subjectUsed, itemUsed, widthIn}
+use Rattle.model.specs.Permission.{linesPart, grantOf, permissionSet}
+use Rattle.model.specs.Calls.{Ask, Change}
+use Rattle.model.specs.Calls.Ask.{permissionSetOf}
+use Rattle.model.specs.Calls.Change.{defineSubject, setGrant, removeGrant, setLine, removeLine, createItem, bind, handOver}
+use Rattle.model.specs.Questions.{check, ask, act}
+
+-- An accepted image: bytes for which questions 1 to 7 are all answered yes.
+pub record Accepted (img : List ℕ) : Type 0 where
+  pub bytes : Bytes img
+  pub checked : check img ≡ 0
+
+-- A sequence is made of calls that write the image and of calls that only ask, which may stand anywhere.
+pub data Step : Type 0 where
+  changes : Change → Step
+  asks : Ask → Step
+
+-- Each call gets the image as the one before it left it, changed or refused.
+unfoldable pub run : List ℕ → List Step → List ℕ
+run img [] = img
+run img (changes c ∷ steps) = run (act img c .image) steps
+run img (asks q ∷ steps) = run img steps
+
+-- the calls of a sequence that write
+unfoldable pub writing : List Step → List Change
+writing [] = []
+writing (changes c ∷ steps) = c ∷ writing steps
+writing (asks q ∷ steps) = writing steps
+
+abbrev pub callerOf : Change → ℕ
+callerOf (defineSubject c r p v) = c
+callerOf (setGrant c s r d v) = c
+callerOf (removeGrant c s r) = c
+callerOf (setLine c r a k s v) = c
+callerOf (removeLine c r a k s) = c
+callerOf (createItem c r a f) = c
+callerOf (bind c i a) = c
+callerOf (handOver c i o) = c
+
+-- the numbers and the privilege sets that a call is handed
+abbrev pub numbersOf : Change → List ℕ
+numbersOf (defineSubject c r p v) = c ∷ r ∷ p ∷ []
+numbersOf (setGrant c s r d v) = c ∷ s ∷ r ∷ d ∷ []
+numbersOf (removeGrant c s r) = c ∷ s ∷ r ∷ []
+numbersOf (setLine c r a k s v) = c ∷ r ∷ a ∷ k ∷ s ∷ []
+numbersOf (removeLine c r a k s) = c ∷ r ∷ a ∷ k ∷ s ∷ []
+numbersOf (createItem c r a f) = c ∷ r ∷ a ∷ f ∷ []
+numbersOf (bind c i a) = c ∷ i ∷ a ∷ []
+numbersOf (handOver c i o) = c ∷ i ∷ o ∷ []
+
+abbrev pub setsOf : Change → List ℕ
+setsOf (defineSubject c r p v) = v ∷ []
+setsOf (setGrant c s r d v) = v ∷ []
+setsOf (removeGrant c s r) = []
+setsOf (setLine c r a k s v) = v ∷ []
+setsOf (removeLine c r a k s) = []
+setsOf (createItem c r a f) = []
+setsOf (bind c i a) = []
+setsOf (handOver c i o) = []
+
+-- Every number handed over is one of 32 bits.
+abbrev pub Handed : Change → Type 0
+Handed c = All (λ v. v < 2 ^ 32) (numbersOf c) × All (λ v. v < 2 ^ 32) (setsOf c)
+
+module _ (t : Tables) (document : ℕ) where
+  -- The items that are followed from: the document.
+  pub data Start : ℕ → Type 0 where
+    the-document : Start document
+
+  -- The followed lists: the document's access list, that list's own list, and on until none or a repeat.
+  pub data Followed : ℕ → Type 0 where
+    its-list : {d : ℕ} → Start d → itemIn (t .items) d .list .0 ≢ 0 → Followed (itemIn (t .items) d .list .0)
+    list-of : {a : ℕ} → Followed a → itemIn (t .items) a .list .0 ≢ 0 → Followed (itemIn (t .items) a .list .0)
+
+  -- Insiders: the custodian, the owners of the document and of the followed lists, and whoever those lists' lines allow to edit any of them.
+  pub data Insider : ℕ → Type 0 where
+    the-custodian : Insider custodian
+    owns-document : {d : ℕ} → Start d → Insider (itemIn (t .items) d .owner .0)
+    owns-list : {a : ℕ} → Followed a → Insider (itemIn (t .items) a .owner .0)
+    may-edit : {a s : ℕ} → Followed a → T (has editList (linesPart t s a)) → Insider s
+
+  -- A stranger is present, is no insider, and holds no role granted by one.
+  pub record Stranger (s : ℕ) : Type 0 where
+    pub present : T (subjectUsed (t .subjects) s)
+    pub outside : ¬ Insider s
+    pub holds-none : All (λ g. g .receiver .0 ≡ s → ¬ Insider (g .grantor .0)) (t .grants)
+
+-- The asker claims no role, or one granted to it by then whose grantor makes none of the added calls.
+pub data Claim (t : Tables) (asker : ℕ) (added : List Change) : ℕ → Type 0 where
+  no-role : Claim t asker added 0
+  granted : {r : ℕ} (g : GrantRow) → grantOf t asker r ≡ some g → All (λ c. callerOf c ≢ g .grantor .0) added → Claim t asker added r
+
+-- What is asked of the second sequence, of the asker, its role and the document; all is read from the image at the stop.
+pub record Covered (stop : List ℕ) (second : List Step) (asker role document : ℕ) : Type 0 where
+  pub asker-present : T (subjectUsed (tables stop .subjects) asker)
+  pub document-present : T (itemUsed (tables stop .items) document)
+  pub strangers-only : All (λ c. Stranger (tables stop) document (callerOf c)) (writing second)
+  pub claimed : Claim (tables stop) asker (writing second) role
+
+-- The permission set is the same in both images, and asking for it is answered by number 0 and that set on both.
+pub record Unchanged (stop later : List ℕ) (asker role document : ℕ) : Type 0 where
+  pub set-same : permissionSet (tables later) asker role document ≡ permissionSet (tables stop) asker role document
+  pub answer-then : ask stop (permissionSetOf asker role document) ≡ record { number = 0; result = permissionSet (tables stop) asker role document }
+  pub answer-later : ask later (permissionSetOf asker role document) ≡ record { number = 0; result = permissionSet (tables stop) asker role document }
+
+-- Demand 3: one claim about both sequences as wholes.
+pub Demand3 : Type 0
+Demand3 =
+    (start : List ℕ)
+    → Accepted start
+    → (first second : List Step)
+    → All Handed (writing first)
+    → All Handed (writing second)
+    → (asker role document : ℕ)
+    → Covered (run start first) second asker role document
+    → Unchanged (run start first) (run (run start first) second) asker role document

@@ -1,0 +1,13 @@
+-- Climbing from a number to lower ones. `up` is the step: a subject's parent, say. A step that does not go to a lower number leads nowhere, so
+-- a climb from s has at most s steps; the first argument counts them.
+use mathlib.Core.Bool.{Bool, _&&_, _||_}
+use Prim.Native.Nat.{ℕ, zero, suc}
+use lib.Dec.{eqb, ltb}
+
+unfoldable pub climbs : ℕ → (ℕ → ℕ) → ℕ → ℕ → Bool
+climbs zero up h s = eqb s h
+climbs (suc n) up h s = eqb s h || (ltb (up s) s && climbs n up h (up s))
+
+-- s is in the tree of h: it is h, or below h
+unfoldable pub inTree : (ℕ → ℕ) → ℕ → ℕ → Bool
+inTree up h s = climbs s up h s

@@ -1,0 +1,54 @@
+-- Document 01, "Who and what": numbers and privilege sets.
+use mathlib.Core.Bool.{Bool, cond}
+use Prim.Native.Nat.{ℕ, zero, suc, _/_, _%_, _^_, _-_}
+use lib.Bits.{bitAnd, bitOr}
+use lib.Dec.{eqb, ltb}
+
+abbrev pub custodian : ℕ
+custodian = 0
+
+-- the positions of the privileges that the calls ask for
+abbrev pub createItems : ℕ
+createItems = 4
+
+abbrev pub defineSubjects : ℕ
+defineSubjects = 5
+
+abbrev pub editList : ℕ
+editList = 6
+
+-- a privilege field has this many bytes
+abbrev pub privilegeWidth : ℕ
+privilegeWidth = 4
+
+-- "All": every position of a privilege field of w bytes
+abbrev pub everything : ℕ → ℕ
+everything w = 256 ^ w - 1
+
+-- position n is in the set p
+unfoldable pub has : ℕ → ℕ → Bool
+has n p = eqb (p / 2 ^ n % 2) 1
+
+infixl 60 _∪_
+infixl 61 _∩_
+abbrev pub _∪_ : ℕ → ℕ → ℕ
+a ∪ b = bitOr a b
+
+abbrev pub _∩_ : ℕ → ℕ → ℕ
+a ∩ b = bitAnd a b
+
+-- every privilege of a is in b
+abbrev pub within : ℕ → ℕ → Bool
+within a b = eqb (a ∩ b) a
+
+-- the set of position n alone; past the last position, the empty set
+abbrev pub maskOf : ℕ → ℕ
+maskOf n = cond (ltb n 32) (2 ^ n) 0
+
+-- the position that question 15 asks for: of define subject (0), create item (1), set line (2) and remove line (3); of no other call
+abbrev pub neededPosition : ℕ → ℕ
+neededPosition zero = defineSubjects
+neededPosition (suc zero) = createItems
+neededPosition (suc (suc zero)) = editList
+neededPosition (suc (suc (suc zero))) = editList
+neededPosition (suc (suc (suc (suc n)))) = 32

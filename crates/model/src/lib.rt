@@ -1,0 +1,251 @@
+// The words of the library: numbers, rows, privilege positions, calls. What they mean is in specs/, one file for each section of
+// document 01.
+ghost use mathlib.Core.Path.{_≡_};
+ghost use Rattle.model.specs.WhoAndWhat.{maskOf, neededPosition, has, within, _∪_, _∩_};
+ghost use Rattle.model.specs.Image.{subjectRow, grantRow, lineRow, itemRow};
+
+pub mod refusal;
+
+// A subject, an item and a role are each a number, and a type of their own: no call can be handed one for another.
+#[repr(C)]
+pub struct Subject(pub u32);
+
+#[repr(C)]
+pub struct Item(pub u32);
+
+#[repr(C)]
+pub struct Role(pub u32);
+
+// A set of privileges: bit n is position n.
+pub type Privileges = u32;
+
+pub const CUSTODIAN: u32 = 0;
+
+pub struct SubjectRow {
+    pub parent: Subject,
+    pub privileges: Privileges,
+    pub creator: Subject,
+}
+
+pub struct GrantRow {
+    pub receiver: Subject,
+    pub role: Role,
+    pub grantor: Subject,
+    pub domain: Subject,
+    pub privileges: Privileges,
+}
+
+pub struct LineRow {
+    pub list: Item,
+    pub kind: u32,
+    pub subject: Subject,
+    pub privileges: Privileges,
+}
+
+pub struct ItemRow {
+    pub owner: Subject,
+    pub list: Item,
+    pub flags: u32,
+}
+
+// One table of an image: its rows in use, the byte it starts at and the byte it ends before.
+pub struct Table {
+    pub used: u32,
+    pub start: u32,
+    pub end: u32,
+}
+
+// Where the four tables of an image lie.
+pub struct Layout {
+    pub subjects: Table,
+    pub grants: Table,
+    pub lines: Table,
+    pub items: Table,
+}
+
+// What a call answers: 0 and its result, or the refusal and 0.
+#[repr(C)]
+pub struct Answer {
+    pub number: u32,
+    pub result: u32,
+}
+
+impl Layout {
+    // The bytes of the header.
+    pub const HEADER: usize = 36;
+    // The bytes of the shortest and of the longest image.
+    pub const SHORTEST: usize = 36;
+
+    pub const LONGEST: usize = 65536;
+}
+
+impl SubjectRow {
+    pub const SIZE: usize = 12;
+
+    pub fn new(parent: Subject, privileges: Privileges, creator: Subject) -> SubjectRow
+        ensures { λ r. ⌜ r ≡ subjectRow (parent .0) privileges (creator .0) ⌝ }
+    {
+        SubjectRow {
+            parent,
+            privileges,
+            creator,
+        }
+    }
+}
+
+impl GrantRow {
+    pub const SIZE: usize = 20;
+
+    pub fn new(
+        receiver: Subject,
+        role: Role,
+        grantor: Subject,
+        domain: Subject,
+        privileges: Privileges,
+    ) -> GrantRow
+        ensures { λ r. ⌜ r ≡ grantRow (receiver .0) (role .0) (grantor .0) (domain .0) privileges ⌝ }
+    {
+        GrantRow {
+            receiver,
+            role,
+            grantor,
+            domain,
+            privileges,
+        }
+    }
+}
+
+impl LineRow {
+    pub const SIZE: usize = 16;
+    // The kinds of a line.
+    pub const ITSELF: u32 = 0;
+
+    pub const GROUP: u32 = 1;
+
+    pub const OWNER: u32 = 2;
+
+    pub const EVERYONE: u32 = 3;
+
+    pub fn new(list: Item, kind: u32, subject: Subject, privileges: Privileges) -> LineRow
+        ensures { λ r. ⌜ r ≡ lineRow (list .0) kind (subject .0) privileges ⌝ }
+    {
+        LineRow {
+            list,
+            kind,
+            subject,
+            privileges,
+        }
+    }
+}
+
+impl ItemRow {
+    pub const SIZE: usize = 12;
+    // The flag bits of an item.
+    pub const IS_LIST: u32 = 1;
+
+    pub const LOCKED: u32 = 2;
+
+    pub fn new(owner: Subject, list: Item, flags: u32) -> ItemRow
+        ensures { λ r. ⌜ r ≡ itemRow (owner .0) (list .0) flags ⌝ }
+    {
+        ItemRow { owner, list, flags }
+    }
+}
+
+// The set of each position alone.
+const MASKS: [Privileges; 32] = [
+    1,
+    2,
+    4,
+    8,
+    16,
+    32,
+    64,
+    128,
+    256,
+    512,
+    1024,
+    2048,
+    4096,
+    8192,
+    16384,
+    32768,
+    65536,
+    131072,
+    262144,
+    524288,
+    1048576,
+    2097152,
+    4194304,
+    8388608,
+    16777216,
+    33554432,
+    67108864,
+    134217728,
+    268435456,
+    536870912,
+    1073741824,
+    2147483648,
+];
+
+// The position that each of the calls below needs, in their order.
+const NEEDED: [u32; 4] = [5, 4, 6, 6];
+
+// The calls that question 15 asks a position of.
+pub const DEFINE_SUBJECT: u32 = 0;
+
+pub const CREATE_ITEM: u32 = 1;
+
+pub const SET_LINE: u32 = 2;
+
+pub const REMOVE_LINE: u32 = 3;
+
+// The set of one position; past the last position, the empty set.
+pub fn mask(position: u32) -> Privileges
+    ensures { λ r. ⌜ r ≡ maskOf position ⌝ }
+{
+    if 32 <= position {
+        return 0;
+    }
+    let at = position as usize;
+    MASKS[at]
+}
+
+// The position that a call needs; 32, which no set has, where the number is no such call's.
+pub fn needed_position(call: u32) -> u32
+    ensures { λ r. ⌜ r ≡ neededPosition call ⌝ }
+{
+    if 4 <= call {
+        return 32;
+    }
+    let at = call as usize;
+    NEEDED[at]
+}
+
+// The privileges of either set.
+pub fn union(a: Privileges, b: Privileges) -> Privileges
+    ensures { λ r. ⌜ r ≡ a ∪ b ⌝ }
+{
+    a | b
+}
+
+// The privileges of both sets.
+pub fn intersection(a: Privileges, b: Privileges) -> Privileges
+    ensures { λ r. ⌜ r ≡ a ∩ b ⌝ }
+{
+    a & b
+}
+
+// Every privilege of a is in b.
+pub fn is_within(a: Privileges, b: Privileges) -> bool
+    ensures { λ r. ⌜ r ≡ within a b ⌝ }
+{
+    a & b == a
+}
+
+// The set holds a position.
+pub fn has(position: u32, set: Privileges) -> bool
+    ensures { λ r. ⌜ r ≡ has position set ⌝ }
+{
+    set & mask(position) != 0
+}
