@@ -13,7 +13,11 @@ pub fn field(bytes: &[u8], at: usize) -> u32
     if places(bytes, 4) <= at {
         return 0;
     }
-    join(bytes[at], bytes[at + 1], bytes[at + 2], bytes[at + 3])
+    let lowest = bytes[at];
+    let low = bytes[at + 1];
+    let high = bytes[at + 2];
+    let highest = bytes[at + 3];
+    join(lowest, low, high, highest)
 }
 
 // A field that would run past the end is not written.

@@ -1,4 +1,4 @@
--- `codec::edits::clear_from` meets its contract: clearing is copying from a list of zeros.
+-- `edits::clear_from` meets its contract: clearing is copying from a list of zeros.
 use Prim.Native.Nat.{_-_}
 use native.Mathlib.Omega.{arith}
 use borrow.Author.Needs.{needs}

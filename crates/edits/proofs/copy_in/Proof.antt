@@ -1,4 +1,4 @@
--- `codec::edits::copy_in` meets its contract: after each turn one more byte of the row stands in its place.
+-- `edits::copy_in` meets its contract: after each turn one more byte of the row stands in its place.
 use Prim.Native.Nat.{_-_}
 use native.Mathlib.Nat.{le-refl}
 use native.Mathlib.Omega.{arith}

@@ -1,4 +1,4 @@
--- `codec::edits::insert_row` meets its contract: what is shifted up and then copied in is the bytes with the row put in.
+-- `edits::insert_row` meets its contract: what is shifted up and then copied in is the bytes with the row put in.
 use borrow.Author.Needs.{needs}
 use Rattle.edits.specs.Fitting.{unfit}
 use Rattle.edits.specs.Edits.{insertBytes}

@@ -1,4 +1,4 @@
--- `codec::edits::remove_row` meets its contract: what is shifted down and then cleared at the end is the bytes with the row taken out.
+-- `edits::remove_row` meets its contract: what is shifted down and then cleared at the end is the bytes with the row taken out.
 use borrow.Author.Needs.{needs}
 use Rattle.edits.specs.Fitting.{unfit}
 use Rattle.edits.specs.Edits.{removeBytes}

@@ -1,4 +1,4 @@
--- `codec::edits::replace_row` meets its contract: a row that does not fit changes nothing, and one that fits is copied in whole.
+-- `edits::replace_row` meets its contract: a row that does not fit changes nothing, and one that fits is copied in whole.
 use borrow.Author.Needs.{needs}
 use Rattle.edits.specs.Fitting.{unfit}
 use Rattle.edits.specs.Edits.{putBytes}

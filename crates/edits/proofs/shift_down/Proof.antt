@@ -1,4 +1,4 @@
--- `codec::edits::shift_down` meets its contract: a byte is read from further up than any that was written, so it is still the one that was there.
+-- `edits::shift_down` meets its contract: a byte is read from further up than any that was written, so it is still the one that was there.
 use Prim.Native.Nat.{_+_, _-_}
 use native.Mathlib.Omega.{arith}
 use borrow.Author.Needs.{needs}

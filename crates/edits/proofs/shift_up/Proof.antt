@@ -1,4 +1,4 @@
--- `codec::edits::shift_up` meets its contract: the bytes from the counter on stand further up, those below are untouched.
+-- `edits::shift_up` meets its contract: the bytes from the counter on stand further up, those below are untouched.
 use native.Mathlib.Omega.{arith}
 use borrow.Author.Needs.{needs}
 use Rattle.edits.specs.Copies.{Raised, raised-none, raised-one, raised-all}

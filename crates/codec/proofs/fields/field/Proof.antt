@@ -13,26 +13,26 @@ returns : tie.Need-returns
 unfolding fieldAt
 returns c = search unfit
 
-shared-slice-read-join : tie.Need-shared-slice-read-join
-shared-slice-read-join c = search needs
+shared-slice-read-lowest : tie.Need-shared-slice-read-lowest
+shared-slice-read-lowest c = search needs
 
-add-join : tie.Need-add-join
-add-join c = search needs
+add-low : tie.Need-add-low
+add-low c = search needs
 
-shared-slice-read-join-2 : tie.Need-shared-slice-read-join-2
-shared-slice-read-join-2 c = search needs
+shared-slice-read-low : tie.Need-shared-slice-read-low
+shared-slice-read-low c = search needs
 
-add-join-2 : tie.Need-add-join-2
-add-join-2 c = search needs
+add-high : tie.Need-add-high
+add-high c = search needs
 
-shared-slice-read-join-3 : tie.Need-shared-slice-read-join-3
-shared-slice-read-join-3 c = search needs
+shared-slice-read-high : tie.Need-shared-slice-read-high
+shared-slice-read-high c = search needs
 
-add-join-3 : tie.Need-add-join-3
-add-join-3 c = search needs
+add-highest : tie.Need-add-highest
+add-highest c = search needs
 
-shared-slice-read-join-4 : tie.Need-shared-slice-read-join-4
-shared-slice-read-join-4 c = search needs
+shared-slice-read-highest : tie.Need-shared-slice-read-highest
+shared-slice-read-highest c = search needs
 
 join-requires : tie.Need-join-requires
 join-requires c κs = search needs
@@ -46,12 +46,12 @@ field-spec =
     (tie.spec
     places-requires
     returns
-    shared-slice-read-join
-    add-join
-    shared-slice-read-join-2
-    add-join-2
-    shared-slice-read-join-3
-    add-join-3
-    shared-slice-read-join-4
+    shared-slice-read-lowest
+    add-low
+    shared-slice-read-low
+    add-high
+    shared-slice-read-high
+    add-highest
+    shared-slice-read-highest
     join-requires
     returns-2)
