@@ -1,12 +1,12 @@
 -- What a call that writes leaves: refused, the bytes at entry; done, the bytes of the tables that its rule gives. From an accepted image both are accepted.
-use mathlib.Core.Bool.{Bool, true, false, cond}
+use mathlib.Core.Bool.{Bool, true, false}
 use mathlib.Core.List.{List, _++_}
 use mathlib.Core.Logic.{_≢_}
-use mathlib.Core.Path.{_≡_, refl, _∙_}
+use mathlib.Core.Path.{_≡_, refl}
 use Prim.Native.Nat.{ℕ}
 use borrow.Author.Tests.{eqb-true, eqb-false, ne-eqb}
 use lib.Dec.{T, eqb}
-use Rattle.model.specs.Image.{Tables, tables, encode}
+use Rattle.model.specs.Image.{tables, encode}
 use Rattle.model.specs.Calls.{Change, after}
 use Rattle.model.specs.Calls.Change.{defineSubject, setGrant, removeGrant, setLine, removeLine, createItem, bind, handOver}
 use Rattle.model.specs.Questions.{imageQuestions, questions, firstNo, act}

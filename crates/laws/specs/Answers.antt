@@ -1,12 +1,11 @@
 -- The first no of a list of questions: it is 0 exactly where every question is answered yes.
 use mathlib.Core.Bool.{Bool, true, false, _&&_, not, cond}
-use mathlib.Core.List.{List, [], _∷_, _++_}
+use mathlib.Core.List.{List, [], _∷_}
 use mathlib.Core.Path.{_≡_, refl}
 use Prim.Native.Nat.{ℕ}
-use lib.Dec.{T, eqb, eqb→eq, eqb-refl, T-not}
-use Rattle.model.specs.Lists.{All}
+use lib.Dec.{T, eqb, T-not}
 use Rattle.model.specs.Questions.{Question, firstNo, imageQuestions, check}
-use Rattle.laws.specs.Tests.{and-l, and-r, true-T, T-true, All-append, All-left, All-right}
+use Rattle.laws.specs.Tests.{and-l, and-r, true-T, T-true}
 use Rattle.laws.specs.WellFormed.{Passed}
 
 -- no question has the number 0

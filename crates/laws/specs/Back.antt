@@ -1,22 +1,22 @@
 -- An accepted image is the bytes of its own tables, and those are well-formed.
-use mathlib.Core.List.{List, [], _∷_, _++_, append-nil}
+use mathlib.Core.List.{List, _++_}
 use mathlib.Core.Path.{_≡_, refl, sym, ap, ap₂, _∙_}
-use Prim.Native.Nat.{ℕ, _+_, _-_, _*_, _≤_}
+use Prim.Native.Nat.{ℕ, _+_, _≤_}
 use native.Mathlib.Nat.{add-zero}
 use native.Mathlib.Omega.{arith}
 use lib.Dec.{T, leb, leb→le, eqb→eq}
-use lib.ListN.{length, take, drop, take-append-drop}
-use lib.Seq.{take-add, drop-drop, drop-length}
+use lib.ListN.{length, drop, take-append-drop}
+use lib.Seq.{drop-length}
 use Rattle.model.specs.declared.Table.{Table}
-use Rattle.model.specs.Lists.{All, Bytes, zeros}
-use Rattle.model.specs.Image.{Tables, Format, Block, size, widthOf, layoutOf, tablesBy, tables, rowsIn, capacity, subjectFormat, grantFormat, lineFormat, itemFormat, headerWidths, headerSize, fieldsAt, rowBytes, headerOf, bodyOf, blocks, blockOf, encode, tableLies, unused, layoutRules, unusedRules, subjectsHold, itemsHold, linesHold, grantsHold}
+use Rattle.model.specs.Lists.{All, zeros}
+use Rattle.model.specs.Image.{Format, Block, widthOf, layoutOf, tablesBy, tables, rowsIn, capacity, subjectFormat, grantFormat, lineFormat, itemFormat, headerWidths, headerSize, fieldsAt, rowBytes, headerOf, bodyOf, blocks, encode, tableLies, unused, layoutRules, unusedRules}
 use Rattle.model.specs.Questions.{imageQuestions, check}
 use Rattle.model.specs.Sequences.{Accepted}
 use Rattle.laws.specs.Tests.{yes-all, and-l, and-r}
 use Rattle.laws.specs.WellFormed.{WellFormed, Passed, Fits, extents}
 use Rattle.laws.specs.Fields.{fields-back, bytes-drop}
 use Rattle.laws.specs.Rows.{Lawful, rows-count, rows-fit, subject-lawful, grant-lawful, line-lawful, item-lawful}
-use Rattle.laws.specs.Blocks.{block-extent, extent-back, starts-before-end, rows-few, header-block, body-block, total-block}
+use Rattle.laws.specs.Blocks.{starts-before-end, rows-few, header-block, body-block, total-block}
 use Rattle.laws.specs.Answers.{image-passed}
 
 -- What questions 1, 2 and 7 say of an accepted image.

@@ -1,17 +1,16 @@
 -- A table's block of bytes, for any format: what a table of an image holds when its bytes are a block, and the block made of what a table holds.
-use mathlib.Core.Bool.{Bool, true, false}
 use mathlib.Core.List.{List, [], _∷_, _++_, append-assoc}
-use mathlib.Core.Path.{_≡_, refl, sym, ap, _∙_}
-use Prim.Native.Nat.{ℕ, zero, suc, _+_, _-_, _*_, _/_, _%_, _<_, _≤_}
+use mathlib.Core.Path.{_≡_, refl, ap, _∙_}
+use Prim.Native.Nat.{ℕ, zero, suc, _+_, _-_, _*_, _%_, _<_, _≤_}
 use native.Mathlib.Omega.{arith}
 use native.Mathlib.Nat.{mul-le-mul-right, mul-div-cancel, mul-mod-left, div-add-mod'}
-use borrow.Author.Tests.{le-leb, eq-eqb}
-use lib.Dec.{T, leb, eqb, le→leb, leb→le, eqb→eq, eqb-refl}
+use borrow.Author.Tests.{eq-eqb}
+use lib.Dec.{T, leb, eqb, le→leb, leb→le, eqb→eq}
 use lib.ListN.{length, take, drop, replicate, length-append, length-replicate, length-drop, take-append-drop}
 use lib.Seq.{take-at, drop-at, take-add, drop-drop, length-take-le}
 use Rattle.model.specs.declared.Table.{Table}
 use Rattle.model.specs.Lists.{All, Bytes, zeros}
-use Rattle.model.specs.Image.{Format, Block, size, rowsFrom, rowsIn, capacity, joined, blockOf, headerOf, bodyOf, tableLies, unused}
+use Rattle.model.specs.Image.{Format, Block, size, rowsIn, capacity, joined, blockOf, headerOf, bodyOf, tableLies, unused}
 use Rattle.laws.specs.Tests.{true-T, and-l, and-r, yes-all, all-yes, All-append}
 use Rattle.laws.specs.WellFormed.{Fits, extents}
 use Rattle.laws.specs.Rows.{Lawful, rows-count, joined-length, joined-bytes, rows-there, rows-back}

@@ -1,16 +1,16 @@
 -- Rows of a table, for any format: a row by its number, rows to bytes and back. Each format's own laws are at the end.
 use mathlib.Core.List.{List, [], _∷_, _++_, append-assoc}
-use mathlib.Core.Path.{_≡_, refl, sym, ap, _∙_}
-use Prim.Native.Nat.{ℕ, zero, suc, _+_, _-_, _*_, _<_, _≤_}
-use native.Mathlib.Nat.{add-zero, zero-add, add-comm, zero-mul, suc-mul, le-of-suc-le-suc, not-suc-le-zero}
+use mathlib.Core.Path.{_≡_, refl, sym, ap}
+use Prim.Native.Nat.{ℕ, zero, suc, _+_, _*_, _<_, _≤_}
+use native.Mathlib.Nat.{add-comm, zero-mul, suc-mul, le-of-suc-le-suc, not-suc-le-zero}
 use native.Mathlib.Omega.{arith}
 use lib.ListN.{length, getD, take, drop, length-append, length-drop, List·getD-eq-default}
-use lib.Seq.{drop-at, take-add, drop-cons, drop-length, drop-nil}
+use lib.Seq.{drop-at, take-add, drop-cons, drop-length}
 use Rattle.model.specs.declared.Table.{Table}
-use Rattle.model.specs.Lists.{All, Bytes, sum}
+use Rattle.model.specs.Lists.{All, Bytes}
 use Rattle.model.specs.Image.{Format, size, rowsFrom, rowsIn, joined, fieldsAt, rowBytes, subjectFormat, grantFormat, lineFormat, itemFormat}
 use Rattle.laws.specs.Tests.{All-append}
-use Rattle.laws.specs.WellFormed.{Fit, Fits}
+use Rattle.laws.specs.WellFormed.{Fits}
 use Rattle.laws.specs.Fields.{fields-drop, fields-count, fields-fit, fields-there, fields-back, row-length, row-bytes, bytes-drop}
 
 -- What makes a format one: a row is its numbers, and numbers are those of their row.

@@ -1,7 +1,7 @@
 -- Laws of privilege sets: the positions of what is in either and in both, and what lies within what.
 use mathlib.Core.Bool.{Bool, true, false, _&&_, _||_}
 use mathlib.Core.Path.{_≡_, refl, _∙_}
-use Prim.Native.Nat.{ℕ, zero, suc, _+_, _*_, _/_, _%_, _^_, _-_, _<_, min}
+use Prim.Native.Nat.{ℕ, zero, suc, _*_, _/_, _%_, _^_, _-_, _<_}
 use native.Mathlib.Nat.{mod-eq-of-lt, mod-lt, pow-suc, mul-suc}
 use native.Mathlib.Omega.{arith}
 use borrow.Author.Tests.{eq-eqb}

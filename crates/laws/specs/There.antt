@@ -1,17 +1,16 @@
 -- Well-formed tables survive the trip through bytes, and their bytes are an accepted image.
-use mathlib.Core.Bool.{Bool, _&&_}
 use mathlib.Core.List.{List, [], _∷_, _++_}
 use mathlib.Core.Path.{_≡_, refl, sym, ap, _∙_}
-use Prim.Native.Nat.{ℕ, zero, suc, _+_, _*_, _^_, _<_, _≤_}
-use native.Mathlib.Nat.{add-zero, add-assoc, mul-one, mul-le-mul-left, le-trans}
+use Prim.Native.Nat.{ℕ, _+_, _*_, _^_, _<_, _≤_}
+use native.Mathlib.Nat.{mul-one, mul-le-mul-left, le-trans}
 use native.Mathlib.Omega.{arith}
 use borrow.Author.Tests.{eq-eqb}
-use lib.Dec.{T, leb, eqb, le→leb, eqb-refl}
-use lib.ListN.{length, getD, take, drop, replicate, length-append}
+use lib.Dec.{T, leb, le→leb}
+use lib.ListN.{length, getD, drop, replicate, length-append}
 use lib.Seq.{drop-at, drop-drop}
 use Rattle.model.specs.declared.Layout.{Layout}
 use Rattle.model.specs.Lists.{All, Bytes, allOf}
-use Rattle.model.specs.Image.{Tables, Format, Block, size, widthIn, layoutOf, tablesBy, tables, rowsIn, subjectFormat, grantFormat, lineFormat, itemFormat, headerWidths, headerSize, fieldAt, fieldsAt, rowBytes, headerOf, bodyOf, blocks, blockOf, encode, layoutRules, unusedRules}
+use Rattle.model.specs.Image.{Tables, Format, Block, size, widthIn, layoutOf, tablesBy, tables, subjectFormat, grantFormat, lineFormat, itemFormat, headerWidths, headerSize, fieldsAt, rowBytes, headerOf, bodyOf, blocks, blockOf, encode, layoutRules, unusedRules}
 use Rattle.model.specs.Questions.{imageQuestions, check}
 use Rattle.model.specs.Sequences.{Accepted}
 use Rattle.laws.specs.Tests.{true-T, and-i, all-yes, All-append}

@@ -1,6 +1,6 @@
 -- Laws of climbing, for any step `up`: of being in a tree, and of the group search. Any count of steps from the number's own on gives the same, so
 -- both have an equation without a count; both read the step only up to the number; and a tree within a tree is part of it.
-use mathlib.Core.Bool.{true, false, _&&_, _||_, cond, or-false}
+use mathlib.Core.Bool.{false, _&&_, _||_, cond, or-false}
 use mathlib.Core.List.{List}
 use mathlib.Core.Logic.{_⊎_, inl, inr}
 use mathlib.Core.Option.{none}
@@ -12,7 +12,8 @@ use lib.Dec.{T, eqb, ltb, eqb→eq}
 use Rattle.model.specs.declared.LineRow.{LineRow}
 use Rattle.model.specs.Lists.{orElse}
 use Rattle.model.specs.Tree.{climbs, inTree}
-use Rattle.model.specs.Permission.{lineIn, group, groupWithin, groupLine}
+use Rattle.model.specs.Permission.{lineIn, groupWithin, groupLine}
+use Rattle.model.specs.Image.{groupKind}
 use Rattle.laws.specs.Tests.{two, or-cases, or-r, and-i, and-l, and-r}
 
 module _ (up : ℕ → ℕ) where
@@ -81,7 +82,7 @@ module _ (up : ℕ → ℕ) where
       ]
 
   pub group-up : (lines : List LineRow) (a s : ℕ)
-      → groupLine up lines a s ≡ cond (ltb (up s) s) (orElse (lineIn lines a group (up s)) (groupLine up lines a (up s))) none
+      → groupLine up lines a s ≡ cond (ltb (up s) s) (orElse (lineIn lines a groupKind (up s)) (groupLine up lines a (up s))) none
   unfolding groupWithin groupLine
   group-up lines a s =
       group-enough lines a s (suc s) s (omega arith) (omega arith)
@@ -109,7 +110,7 @@ module _ (up vp : ℕ → ℕ) (n : ℕ) (agree : (s : ℕ) → s < n → up s �
     unfolding groupWithin
     group-within-same zero s l = refl
     group-within-same (suc m) s l =
-        rw (agree s l, lines-agree group (vp s))
+        rw (agree s l, lines-agree groupKind (vp s))
         (elim (two (ltb (vp s) s)) [ inl e ↦ rw (group-within-same m (vp s) (omega (arith, ltb-true (vp s) s e))) | inr e ↦ rw e ])
 
     pub group-same : (s : ℕ) → s < n → groupLine up lines a s ≡ groupLine vp more a s

@@ -1,11 +1,11 @@
 -- Well-formed tables: what questions 2 to 6 ask of tables, and that every number fits its field. An accepted image has such tables, and the bytes of
 -- such tables are an accepted image.
 use mathlib.Core.List.{List, [], _∷_}
-use Prim.Native.Nat.{ℕ, _+_, _*_, _^_, _<_, _≤_}
+use Prim.Native.Nat.{ℕ, _+_, _^_, _<_, _≤_}
 use lib.ListN.{length}
 use lib.Dec.{T}
 use Rattle.model.specs.Lists.{All}
-use Rattle.model.specs.Image.{Format, Tables, Block, size, widthIn, subjectFormat, grantFormat, lineFormat, itemFormat, headerSize, blocks, subjectsHold, itemsHold, linesHold, grantsHold}
+use Rattle.model.specs.Image.{Format, Tables, Block, widthIn, subjectFormat, grantFormat, lineFormat, itemFormat, headerSize, blocks, subjectsHold, itemsHold, linesHold, grantsHold}
 use Rattle.model.specs.Questions.{Question}
 
 -- each number is below 256 to the power of its field's bytes

@@ -1,7 +1,7 @@
 -- Document 01, "The calls": what each answers and what it leaves, where it is not refused. Numbers are those of the call's arguments, in its order.
-use mathlib.Core.Bool.{Bool, true, false, _&&_, not, cond}
+use mathlib.Core.Bool.{Bool, _&&_, not, cond}
 use mathlib.Core.List.{List, [], _∷_, _++_}
-use Prim.Native.Nat.{ℕ, zero, suc, _+_, _*_}
+use Prim.Native.Nat.{ℕ, zero, suc}
 use lib.ListN.{length, set}
 use lib.Dec.{eqb, ltb}
 use Rattle.model.specs.declared.SubjectRow.{SubjectRow}

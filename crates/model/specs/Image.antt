@@ -1,5 +1,5 @@
 -- Document 01, "The image": bytes to tables, tables to bytes, and the rules of the rows.
-use mathlib.Core.Bool.{Bool, true, false, _&&_, _||_, not, cond}
+use mathlib.Core.Bool.{Bool, false, _&&_, _||_, not, cond}
 use mathlib.Core.List.{List, [], _∷_, _++_}
 use Prim.Native.Nat.{ℕ, zero, suc, _+_, _-_, _*_, _/_, _%_}
 use lib.ListN.{length, getD, take, drop, replicate}
@@ -13,7 +13,7 @@ use Rattle.model.specs.declared.Layout.{Layout}
 use Rattle.model.specs.Lists.{allOf, sum, every, everyNumbered, zeros}
 use Rattle.model.specs.Sorted.{ascending}
 use Rattle.model.specs.Tree.{inTree}
-use Rattle.model.specs.WhoAndWhat.{everything, has, within}
+use Rattle.model.specs.WhoAndWhat.{privilegeWidth, everything, has, within}
 
 -- The fields. A number of k bytes, little-endian; a field that runs past the end is 0.
 
@@ -146,10 +146,10 @@ layoutOf img =
 
 -- the bytes of a privilege field, in an image and in its tables
 abbrev pub widthOf : Layout → ℕ
-widthOf lay = 4
+widthOf lay = privilegeWidth
 
 abbrev pub widthIn : Tables → ℕ
-widthIn t = 4
+widthIn t = privilegeWidth
 
 module _ {A : Type 0} (f : Format A) where
   -- the first n rows of s
@@ -234,9 +234,6 @@ subjectIn rows s = getD rows s noSubject
 abbrev pub parentIn : List SubjectRow → ℕ → ℕ
 parentIn rows s = subjectIn rows s .parent .0
 
-abbrev pub creatorIn : List SubjectRow → ℕ → ℕ
-creatorIn rows s = subjectIn rows s .creator .0
-
 abbrev pub privilegesIn : List SubjectRow → ℕ → ℕ
 privilegesIn rows s = subjectIn rows s .privileges
 
@@ -279,9 +276,22 @@ grantRules subjects g =
     ∷ inTree (parentIn subjects) (g .grantor .0) (g .domain .0)
     ∷ [])
 
--- kinds 2 and 3 have subject 0
+-- the kinds of a line: the subject itself, the group of the subject, the item's owner, everyone
+abbrev pub itselfKind : ℕ
+itselfKind = 0
+
+abbrev pub groupKind : ℕ
+groupKind = 1
+
+abbrev pub ownerKind : ℕ
+ownerKind = 2
+
+abbrev pub everyoneKind : ℕ
+everyoneKind = 3
+
+-- there is no kind above; the owner's and everyone's have subject 0
 abbrev pub kindFits : ℕ → ℕ → Bool
-kindFits kind s = leb kind 3 && (leb kind 1 || eqb s 0)
+kindFits kind s = leb kind everyoneKind && (leb kind groupKind || eqb s 0)
 
 abbrev pub lineRules : List SubjectRow → List ItemRow → LineRow → Bool
 lineRules subjects items l = allOf (isList items (l .list .0) ∷ kindFits (l .kind) (l .subject .0) ∷ subjectUsed subjects (l .subject .0) ∷ [])

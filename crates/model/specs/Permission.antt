@@ -1,5 +1,5 @@
 -- Document 01, "How a permission is found".
-use mathlib.Core.Bool.{Bool, cond}
+use mathlib.Core.Bool.{cond}
 use mathlib.Core.List.{List, [], _∷_}
 use mathlib.Core.Option.{Option, none, some}
 use Prim.Native.Nat.{ℕ, zero, suc}
@@ -10,20 +10,7 @@ use Rattle.model.specs.Lists.{orElse}
 use Rattle.model.specs.Sorted.{find}
 use Rattle.model.specs.Tree.{inTree}
 use Rattle.model.specs.WhoAndWhat.{custodian, everything, _∪_, _∩_}
-use Rattle.model.specs.Image.{Tables, widthIn, grantKey, lineKey, parentIn, privilegesIn, itemIn}
-
--- the kinds of a line
-abbrev pub itself : ℕ
-itself = 0
-
-abbrev pub group : ℕ
-group = 1
-
-abbrev pub owner : ℕ
-owner = 2
-
-abbrev pub everyone : ℕ
-everyone = 3
+use Rattle.model.specs.Image.{Tables, widthIn, itselfKind, groupKind, ownerKind, everyoneKind, grantKey, lineKey, parentIn, privilegesIn, itemIn}
 
 -- The line of list a for a kind and a subject. No list means no lines.
 abbrev pub lineIn : List LineRow → ℕ → ℕ → ℕ → Option LineRow
@@ -38,20 +25,20 @@ lineSet (some l) = l .privileges
 -- nothing. A climb from s has at most s steps; the first argument counts them.
 unfoldable pub groupWithin : ℕ → (ℕ → ℕ) → List LineRow → ℕ → ℕ → Option LineRow
 groupWithin zero up lines a s = none
-groupWithin (suc n) up lines a s = cond (ltb (up s) s) (orElse (lineIn lines a group (up s)) (groupWithin n up lines a (up s))) none
+groupWithin (suc n) up lines a s = cond (ltb (up s) s) (orElse (lineIn lines a groupKind (up s)) (groupWithin n up lines a (up s))) none
 
 unfoldable pub groupLine : (ℕ → ℕ) → List LineRow → ℕ → ℕ → Option LineRow
 groupLine up lines a s = groupWithin s up lines a s
 
 -- The owner with an owner line: that line. A non-owner with an own line: that line, even if it holds 0. o is the item's owner.
 unfoldable pub directLine : List LineRow → ℕ → ℕ → ℕ → Option LineRow
-directLine lines o a s = cond (eqb s o) (lineIn lines a owner 0) (lineIn lines a itself s)
+directLine lines o a s = cond (eqb s o) (lineIn lines a ownerKind 0) (lineIn lines a itselfKind s)
 
 -- The lines' part for subject s on an item with owner o and list a.
 unfoldable pub partOf : ℕ → (ℕ → ℕ) → List LineRow → ℕ → ℕ → ℕ → ℕ
 partOf all up lines o a s =
     cond (eqb s custodian) all
-    (lineSet (orElse (directLine lines o a s) (groupLine up lines a s)) ∪ lineSet (lineIn lines a everyone 0))
+    (lineSet (orElse (directLine lines o a s) (groupLine up lines a s)) ∪ lineSet (lineIn lines a everyoneKind 0))
 
 abbrev pub linesPart : Tables → ℕ → ℕ → ℕ
 linesPart t s i =

@@ -4,8 +4,7 @@ use mathlib.Core.List.{List, [], _∷_}
 use Prim.Native.Nat.{ℕ}
 use lib.Dec.{eqb}
 use Rattle.model.specs.WhoAndWhat.{everything}
-use Rattle.model.specs.Image.{Tables, subjectRow, grantRow, lineRow, itemRow}
-use Rattle.model.specs.Permission.{itself, group, owner, everyone}
+use Rattle.model.specs.Image.{Tables, subjectRow, grantRow, lineRow, itemRow, itselfKind, groupKind, ownerKind, everyoneKind}
 use Rattle.model.specs.Calls.Ask.{permissionSetOf}
 use Rattle.model.specs.Questions.{ask}
 
@@ -22,7 +21,7 @@ workshop =
           ∷ subjectRow 2 3 1
           ∷ [];
       grants = grantRow 4 7 2 2 3 ∷ [];
-      lines = lineRow 1 itself 4 8 ∷ lineRow 1 itself 5 0 ∷ lineRow 1 group 1 3 ∷ lineRow 1 owner 0 7 ∷ lineRow 1 everyone 0 1 ∷ [];
+      lines = lineRow 1 itselfKind 4 8 ∷ lineRow 1 itselfKind 5 0 ∷ lineRow 1 groupKind 1 3 ∷ lineRow 1 ownerKind 0 7 ∷ lineRow 1 everyoneKind 0 1 ∷ [];
       items = itemRow 1 1 1 ∷ itemRow 2 1 0 ∷ itemRow 4 1 0 ∷ itemRow 2 0 0 ∷ [];
       room = record { subjects = 7; grants = 2; lines = 6; items = 5 };
     }

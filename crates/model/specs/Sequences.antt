@@ -1,15 +1,14 @@
 -- Document 01, "The sequences of demand 3": followed lists, insiders, strangers, and the claim.
 use mathlib.Core.List.{List, [], _∷_}
 use mathlib.Core.Logic.{_≢_}
-use mathlib.Core.Option.{Option, some}
+use mathlib.Core.Option.{some}
 use mathlib.Core.Path.{_≡_}
 use Prim.Native.Nat.{ℕ, _<_, _^_}
 use lib.Dec.{T}
 use Rattle.model.specs.declared.GrantRow.{GrantRow}
-use Rattle.model.specs.declared.ItemRow.{ItemRow}
 use Rattle.model.specs.Lists.{All, Bytes}
 use Rattle.model.specs.WhoAndWhat.{custodian, editList, has}
-use Rattle.model.specs.Image.{Tables, tables, itemIn, subjectUsed, itemUsed, widthIn}
+use Rattle.model.specs.Image.{Tables, tables, itemIn, subjectUsed, itemUsed}
 use Rattle.model.specs.Permission.{linesPart, grantOf, permissionSet}
 use Rattle.model.specs.Calls.{Ask, Change}
 use Rattle.model.specs.Calls.Ask.{permissionSetOf}
@@ -21,22 +20,28 @@ pub record Accepted (img : List ℕ) : Type 0 where
   pub bytes : Bytes img
   pub checked : check img ≡ 0
 
--- A sequence is made of calls that write the image and of calls that only ask, which may stand anywhere.
+-- The calls that never write the image.
+pub data Reading : Type 0 where
+  asks : Ask → Reading
+  showsLines : (list : ℕ) → Reading
+  searchesEditor : (list : ℕ) → Reading
+
+-- A sequence is made of calls that write the image and of calls that never do, which may stand anywhere.
 pub data Step : Type 0 where
   changes : Change → Step
-  asks : Ask → Step
+  reads : Reading → Step
 
 -- Each call gets the image as the one before it left it, changed or refused.
 unfoldable pub run : List ℕ → List Step → List ℕ
 run img [] = img
 run img (changes c ∷ steps) = run (act img c .image) steps
-run img (asks q ∷ steps) = run img steps
+run img (reads q ∷ steps) = run img steps
 
 -- the calls of a sequence that write
 unfoldable pub writing : List Step → List Change
 writing [] = []
 writing (changes c ∷ steps) = c ∷ writing steps
-writing (asks q ∷ steps) = writing steps
+writing (reads q ∷ steps) = writing steps
 
 abbrev pub callerOf : Change → ℕ
 callerOf (defineSubject c r p v) = c

@@ -1,4 +1,5 @@
--- Document 01, "Who and what": numbers and privilege sets.
+-- Document 01, "Who and what": numbers and privilege sets. Subjects count from 0, the custodian; items from 1; role 0 is no role. In a set, bit n is
+-- position n: 0 read, 1 replace, 2 discard, 3 annotate, 4 create items, 5 define subjects, 6 edit an access list, the others the host's own.
 use mathlib.Core.Bool.{Bool, cond}
 use Prim.Native.Nat.{ℕ, zero, suc, _/_, _%_, _^_, _-_}
 use lib.Bits.{bitAnd, bitOr}
@@ -17,7 +18,7 @@ defineSubjects = 5
 abbrev pub editList : ℕ
 editList = 6
 
--- a privilege field has this many bytes
+-- the bytes of a privilege field
 abbrev pub privilegeWidth : ℕ
 privilegeWidth = 4
 
