@@ -11,7 +11,7 @@ use lib.Seq.{take-at, drop-at, take-add, drop-drop, length-take-le}
 use Rattle.model.specs.declared.Table.{Table}
 use Rattle.model.specs.Lists.{All, Bytes, zeros}
 use Rattle.model.specs.Image.{Format, Block, size, rowsIn, capacity, joined, blockOf, headerOf, bodyOf, tableLies, unused}
-use Rattle.laws.specs.Tests.{true-T, and-l, and-r, yes-all, all-yes, All-append}
+use Rattle.laws.specs.Tests.{_and_, true-T, and-l, and-r, yes-all, all-yes, All-append}
 use Rattle.laws.specs.WellFormed.{Fits, extents}
 use Rattle.laws.specs.Rows.{Lawful, rows-count, joined-length, joined-bytes, rows-there, rows-back}
 use Rattle.laws.specs.Fields.{bytes-drop}
@@ -90,7 +90,7 @@ module _ {A : Type 0} (f : Format A) where
           let whole : (at + room * size f - at) % size f ≡ 0 = rw extent (mul-mod-left room (size f)) in
           let enough : length xs ≤ capacity f table = rw room-stands few in
           all-yes (leb at (at + room * size f) ∷ eqb ((at + room * size f - at) % size f) 0 ∷ leb (length xs) (capacity f table) ∷ [])
-          (le→leb _ _ ordered, (true-T _ (eq-eqb _ 0 whole), (le→leb _ _ enough, tt)))
+          (le→leb _ _ ordered and true-T _ (eq-eqb _ 0 whole) and le→leb _ _ enough and tt)
 
       -- behind the rows in use the block has zeros up to the table's end
       blank : T (zeros (unused f table img))

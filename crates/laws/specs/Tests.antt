@@ -11,6 +11,11 @@ use lib.Dec.{T, eqb, ltb, leb}
 use lib.ListN.{length, getD, set}
 use Rattle.model.specs.Lists.{allOf, every, everyNumbered, All}
 
+-- two facts
+infixr 20 _and_
+abbrev pub _and_ : {P Q : Type 0} → P → Q → P × Q
+p and q = (p, q)
+
 -- Tests as equations and as facts.
 
 pub T-true : (b : Bool) → T b → b ≡ true

@@ -13,7 +13,7 @@ use Rattle.model.specs.Lists.{All, Bytes, allOf}
 use Rattle.model.specs.Image.{Tables, Format, Block, size, widthIn, layoutOf, tablesBy, tables, subjectFormat, grantFormat, lineFormat, itemFormat, headerWidths, headerSize, fieldsAt, rowBytes, headerOf, bodyOf, blocks, blockOf, encode, layoutRules, unusedRules}
 use Rattle.model.specs.Questions.{imageQuestions, check}
 use Rattle.model.specs.Sequences.{Accepted}
-use Rattle.laws.specs.Tests.{true-T, and-i, all-yes, All-append}
+use Rattle.laws.specs.Tests.{_and_, true-T, and-i, all-yes, All-append}
 use Rattle.laws.specs.WellFormed.{WellFormed, Passed, Fit, extents}
 use Rattle.laws.specs.Fields.{fields-there, row-length, row-bytes}
 use Rattle.laws.specs.Rows.{Lawful, subject-lawful, grant-lawful, line-lawful, item-lawful}
@@ -78,16 +78,12 @@ module _ (t : Tables) (good : WellFormed t) where
   w = widthIn t
 
   sizes : All Sized (blocks t)
-  sizes = (
-    sized (subjectFormat w) (subject-lawful w) (t .room .subjects) (t .subjects) (good .subjects-room),
-    (
-      sized (grantFormat w) (grant-lawful w) (t .room .grants) (t .grants) (good .grants-room),
-      (
-        sized (lineFormat w) (line-lawful w) (t .room .lines) (t .lines) (good .lines-room),
-        (sized itemFormat item-lawful (t .room .items) (t .items) (good .items-room), tt),
-      ),
-    ),
-  )
+  sizes =
+      sized (subjectFormat w) (subject-lawful w) (t .room .subjects) (t .subjects) (good .subjects-room)
+      and sized (grantFormat w) (grant-lawful w) (t .room .grants) (t .grants) (good .grants-room)
+      and sized (lineFormat w) (line-lawful w) (t .room .lines) (t .lines) (good .lines-room)
+      and sized itemFormat item-lawful (t .room .items) (t .items) (good .items-room)
+      and tt
 
   front : List ℕ
   front = rowBytes headerWidths (headerOf headerSize (blocks t))
@@ -174,31 +170,21 @@ module _ (t : Tables) (good : WellFormed t) where
   layout-right : T (allOf (layoutRules lay (encode t)))
   unfolding layoutRules
   layout-right =
-      all-yes (layoutRules lay (encode t)) (
-        true-T _ (eq-eqb (lay .items .end) (length (encode t)) (total-end ∙ sym encode-length)),
-        (
-          tt,
-          (
-            subjects-hold .lies-right,
-            (
-              grants-hold .lies-right,
-              (
-                lines-hold .lies-right,
-                (
-                  items-hold .lies-right,
-                  (le→leb 1 (lay .subjects .used) (rw (block-used (subjectFormat w) (t .room .subjects) (t .subjects)) (good .custodian-there)), tt),
-                ),
-              ),
-            ),
-          ),
-        ),
-      )
+      all-yes (layoutRules lay (encode t))
+      (true-T _ (eq-eqb (lay .items .end) (length (encode t)) (total-end ∙ sym encode-length))
+      and tt
+      and subjects-hold .lies-right
+      and grants-hold .lies-right
+      and lines-hold .lies-right
+      and items-hold .lies-right
+      and le→leb 1 (lay .subjects .used) (rw (block-used (subjectFormat w) (t .room .subjects) (t .subjects)) (good .custodian-there))
+      and tt)
 
   unused-right : T (allOf (unusedRules lay (encode t)))
   unfolding unusedRules
   unused-right =
       all-yes (unusedRules lay (encode t))
-      (subjects-hold .unused-zero, (grants-hold .unused-zero, (lines-hold .unused-zero, (items-hold .unused-zero, tt))))
+      (subjects-hold .unused-zero and grants-hold .unused-zero and lines-hold .unused-zero and items-hold .unused-zero and tt)
 
   encode-bytes : Bytes (encode t)
   unfolding encode
@@ -208,27 +194,17 @@ module _ (t : Tables) (good : WellFormed t) where
 
   questions-passed : Passed (imageQuestions (encode t))
   unfolding imageQuestions
-  questions-passed = (
-    and-i (leb 36 (length (encode t))) (leb (length (encode t)) 65536)
-        (le→leb 36 (length (encode t)) (omega (arith, encode-length)))
-        (le→leb (length (encode t)) 65536 (omega (arith, encode-length, good .short))),
-    (
-      rw layout-there layout-right,
-      (
-        rw tables-there (good .subjects-hold),
-        (
-          rw tables-there (good .items-hold),
-          (
-            rw tables-there (good .lines-hold),
-            (
-              rw tables-there (good .grants-hold),
-              (rw layout-there unused-right, tt),
-            ),
-          ),
-        ),
-      ),
-    ),
-  )
+  questions-passed =
+      and-i (leb 36 (length (encode t))) (leb (length (encode t)) 65536)
+      (le→leb 36 (length (encode t)) (omega (arith, encode-length)))
+      (le→leb (length (encode t)) 65536 (omega (arith, encode-length, good .short)))
+      and rw layout-there layout-right
+      and rw tables-there (good .subjects-hold)
+      and rw tables-there (good .items-hold)
+      and rw tables-there (good .lines-hold)
+      and rw tables-there (good .grants-hold)
+      and rw layout-there unused-right
+      and tt
 
   pub encode-accepted : Accepted (encode t)
   unfolding check
