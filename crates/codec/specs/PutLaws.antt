@@ -8,7 +8,7 @@ use borrow.Author.Tests.{le-leb, lt-leb}
 use lib.ListN.{length, take, drop, length-append, length-drop}
 use lib.Seq.{length-take-le, take-at, drop-at, drop-drop, paste-zero}
 use Rattle.model.specs.Lists.{sum}
-use Rattle.model.specs.Image.{Format, size, bytesOf, rowBytes}
+use Rattle.model.specs.Image.{Format, size, rowInBytes, bytesOf, rowBytes}
 use Rattle.laws.specs.Tests.{le-or-lt}
 use Rattle.laws.specs.Fields.{bytes-length, row-length}
 use Rattle.laws.specs.Rows.{Lawful}
@@ -87,5 +87,5 @@ pub row-put : {A : Type 0} (f : Format A) (x : A) (s : List ℕ) (at : ℕ) (r :
     → Lawful f
     → at + size f ≤ length s
     → Put (f .widths) (f .numbers x) s at r
-    → r ≡ putBytes s at (rowBytes (f .widths) (f .numbers x))
+    → r ≡ putBytes s at (rowInBytes f x)
 row-put f x s at r law h p = fields-put p (law .counted x) h

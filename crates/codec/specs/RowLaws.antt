@@ -6,11 +6,11 @@ use native.Mathlib.Omega.{arith}
 use lib.ListN.{getD}
 use Rattle.model.specs.declared.Table.{Table}
 use Rattle.model.specs.declared.ItemRow.{ItemRow}
-use Rattle.model.specs.Image.{Format, size, rowsIn, fieldsAt, noItem, itemIn}
+use Rattle.model.specs.Image.{Format, size, rowAt, rowsIn, noItem, itemIn}
 use Rattle.laws.specs.Rows.{row-in, row-past}
 
 module _ {A : Type 0} (f : Format A) (t : Table) (img : List ℕ) (d : A) (k : ℕ) (r : A) where
-  pub row-read : k < t .used → r ≡ f .row (fieldsAt (f .widths) img (t .start + k * size f)) → r ≡ getD (rowsIn f t img) k d
+  pub row-read : k < t .used → r ≡ rowAt f img (t .start + k * size f) → r ≡ getD (rowsIn f t img) k d
   row-read h e = e ∙ sym (row-in f t img d k h)
 
   pub row-unused : t .used ≤ k → r ≡ d → r ≡ getD (rowsIn f t img) k d

@@ -1,6 +1,6 @@
 // Rows written at a place. A row that does not fit whole is not written.
 ghost use mathlib.Core.Path.{_≡_};
-ghost use Rattle.model.specs.Image.{rowBytes, widthOf, subjectFormat, grantFormat, lineFormat, itemFormat};
+ghost use Rattle.model.specs.Image.{rowInBytes, widthOf, subjectFormat, grantFormat, lineFormat, itemFormat};
 ghost use Rattle.edits.specs.Edits.{putBytes};
 use crate::fields::put_field;
 use crate::widths::grant_size;
@@ -17,7 +17,7 @@ use model::LineRow;
 use model::SubjectRow;
 
 pub fn put_subject(bytes: &mut [u8], layout: Layout, at: usize, row: SubjectRow)
-    ensures { λ _. ⌜ now (bytes .exit) ≡ putBytes (now (bytes .entry)) at (rowBytes ((subjectFormat (widthOf layout)) .widths) ((subjectFormat (widthOf layout)) .numbers row)) ⌝ }
+    ensures { λ _. ⌜ now (bytes .exit) ≡ putBytes (now (bytes .entry)) at (rowInBytes (subjectFormat (widthOf layout)) row) ⌝ }
 {
     if places(bytes, subject_size(layout)) <= at {
         return;
@@ -30,7 +30,7 @@ pub fn put_subject(bytes: &mut [u8], layout: Layout, at: usize, row: SubjectRow)
 }
 
 pub fn put_grant(bytes: &mut [u8], layout: Layout, at: usize, row: GrantRow)
-    ensures { λ _. ⌜ now (bytes .exit) ≡ putBytes (now (bytes .entry)) at (rowBytes ((grantFormat (widthOf layout)) .widths) ((grantFormat (widthOf layout)) .numbers row)) ⌝ }
+    ensures { λ _. ⌜ now (bytes .exit) ≡ putBytes (now (bytes .entry)) at (rowInBytes (grantFormat (widthOf layout)) row) ⌝ }
 {
     if places(bytes, grant_size(layout)) <= at {
         return;
@@ -47,7 +47,7 @@ pub fn put_grant(bytes: &mut [u8], layout: Layout, at: usize, row: GrantRow)
 }
 
 pub fn put_line(bytes: &mut [u8], layout: Layout, at: usize, row: LineRow)
-    ensures { λ _. ⌜ now (bytes .exit) ≡ putBytes (now (bytes .entry)) at (rowBytes ((lineFormat (widthOf layout)) .widths) ((lineFormat (widthOf layout)) .numbers row)) ⌝ }
+    ensures { λ _. ⌜ now (bytes .exit) ≡ putBytes (now (bytes .entry)) at (rowInBytes (lineFormat (widthOf layout)) row) ⌝ }
 {
     if places(bytes, line_size(layout)) <= at {
         return;
@@ -62,7 +62,7 @@ pub fn put_line(bytes: &mut [u8], layout: Layout, at: usize, row: LineRow)
 }
 
 pub fn put_item(bytes: &mut [u8], layout: Layout, at: usize, row: ItemRow)
-    ensures { λ _. ⌜ now (bytes .exit) ≡ putBytes (now (bytes .entry)) at (rowBytes (itemFormat .widths) (itemFormat .numbers row)) ⌝ }
+    ensures { λ _. ⌜ now (bytes .exit) ≡ putBytes (now (bytes .entry)) at (rowInBytes itemFormat row) ⌝ }
 {
     if places(bytes, item_size(layout)) <= at {
         return;

@@ -1,6 +1,6 @@
 -- Rows of a table, for any format: a row by its number, rows to bytes and back. Each format's own laws are at the end.
 use mathlib.Core.List.{List, [], _∷_, _++_, append-assoc}
-use mathlib.Core.Path.{_≡_, refl, sym, ap}
+use mathlib.Core.Path.{_≡_, refl, sym, ap, _∙_}
 use Prim.Native.Nat.{ℕ, zero, suc, _+_, _*_, _<_, _≤_}
 use native.Mathlib.Nat.{add-comm, zero-mul, suc-mul, le-of-suc-le-suc, not-suc-le-zero}
 use native.Mathlib.Omega.{arith}
@@ -8,7 +8,7 @@ use lib.ListN.{length, getD, take, drop, length-append, length-drop, List·getD-
 use lib.Seq.{drop-at, take-add, drop-cons, drop-length}
 use Rattle.model.specs.declared.Table.{Table}
 use Rattle.model.specs.Lists.{All, Bytes}
-use Rattle.model.specs.Image.{Format, size, rowsFrom, rowsIn, joined, fieldsAt, rowBytes, subjectFormat, grantFormat, lineFormat, itemFormat}
+use Rattle.model.specs.Image.{Format, size, rowAt, rowInBytes, rowsFrom, rowsIn, joined, fieldsAt, subjectFormat, grantFormat, lineFormat, itemFormat}
 use Rattle.laws.specs.Tests.{All-append}
 use Rattle.laws.specs.WellFormed.{Fits}
 use Rattle.laws.specs.Fields.{fields-drop, fields-count, fields-fit, fields-there, fields-back, row-length, row-bytes, bytes-drop}
@@ -25,11 +25,13 @@ module _ {A : Type 0} (f : Format A) where
   rows-from-count zero s = refl
   rows-from-count (suc n) s = ap suc (rows-from-count n (drop (size f) s))
 
-  pub row-from : (n : ℕ) (s : List ℕ) (d : A) (k : ℕ) → k < n → getD (rowsFrom f n s) k d ≡ f .row (fieldsAt (f .widths) s (k * size f))
+  pub row-from : (n : ℕ) (s : List ℕ) (d : A) (k : ℕ) → k < n → getD (rowsFrom f n s) k d ≡ rowAt f s (k * size f)
   row-from zero s d k h = absurd (not-suc-le-zero h)
   row-from (suc n) s d zero h = rw (zero-mul (size f))
   row-from (suc n) s d (suc k) h =
-      rw (row-from n (drop (size f) s) d k (le-of-suc-le-suc h), fields-drop (f .widths) s (size f) (k * size f), suc-mul k (size f), add-comm (size f) (k * size f))
+      let further : size f + k * size f ≡ suc k * size f = rw (suc-mul k (size f)) (add-comm (size f) (k * size f)) in
+      row-from n (drop (size f) s) d k (le-of-suc-le-suc h)
+      ∙ ap (f .row) (fields-drop (f .widths) s (size f) (k * size f) ∙ ap (fieldsAt (f .widths) s) further)
 
   -- A table's rows by their number.
 
@@ -38,9 +40,10 @@ module _ {A : Type 0} (f : Format A) where
   rows-count t img = rows-from-count (t .used) (drop (t .start) img)
 
   pub row-in : (t : Table) (img : List ℕ) (d : A) (k : ℕ) → k < t .used
-      → getD (rowsIn f t img) k d ≡ f .row (fieldsAt (f .widths) img (t .start + k * size f))
+      → getD (rowsIn f t img) k d ≡ rowAt f img (t .start + k * size f)
   unfolding rowsIn
-  row-in t img d k h = rw (row-from (t .used) (drop (t .start) img) d k h, fields-drop (f .widths) img (t .start) (k * size f))
+  row-in t img d k h =
+      row-from (t .used) (drop (t .start) img) d k h ∙ ap (f .row) (fields-drop (f .widths) img (t .start) (k * size f))
 
   pub row-past : (t : Table) (img : List ℕ) (d : A) (k : ℕ) → t .used ≤ k → getD (rowsIn f t img) k d ≡ d
   row-past t img d k h =
@@ -52,10 +55,10 @@ module _ {A : Type 0} (f : Format A) where
   pub joined-bytes : (xs : List A) → Bytes (joined f xs)
   joined-bytes [] = tt
   joined-bytes (x ∷ xs) =
-      All-append (λ b. b < 256) (rowBytes (f .widths) (f .numbers x)) (joined f xs) (row-bytes (f .widths) (f .numbers x)) (joined-bytes xs)
+      All-append (λ b. b < 256) (rowInBytes f x) (joined f xs) (row-bytes (f .widths) (f .numbers x)) (joined-bytes xs)
 
   module _ (law : Lawful f) where
-    row-long : (x : A) → length (rowBytes (f .widths) (f .numbers x)) ≡ size f
+    row-long : (x : A) → length (rowInBytes f x) ≡ size f
     row-long x = row-length (f .widths) (f .numbers x) (law .counted x)
 
     pub joined-length : (xs : List A) → length (joined f xs) ≡ length xs * size f
@@ -65,10 +68,10 @@ module _ {A : Type 0} (f : Format A) where
     pub rows-there : (xs : List A) (z : List ℕ) → All (Fits f) xs → rowsFrom f (length xs) (joined f xs ++ z) ≡ xs
     rows-there [] z h = refl
     rows-there (x ∷ xs) z h =
-        let row : f .row (fieldsAt (f .widths) (rowBytes (f .widths) (f .numbers x) ++ (joined f xs ++ z)) 0) ≡ x =
+        let row : f .row (fieldsAt (f .widths) (rowInBytes f x ++ (joined f xs ++ z)) 0) ≡ x =
         rw (fields-there (f .widths) (f .numbers x) (joined f xs ++ z) (law .counted x) (h .0)) (law .there x) in
-        let rest : drop (size f) (rowBytes (f .widths) (f .numbers x) ++ (joined f xs ++ z)) ≡ joined f xs ++ z =
-        drop-at (rowBytes (f .widths) (f .numbers x)) (joined f xs ++ z) (size f) (row-long x) in
+        let rest : drop (size f) (rowInBytes f x ++ (joined f xs ++ z)) ≡ joined f xs ++ z =
+        drop-at (rowInBytes f x) (joined f xs ++ z) (size f) (row-long x) in
         rw (append-assoc, row, rest, rows-there xs z (h .1))
 
     pub rows-back : (n : ℕ) (s : List ℕ) → Bytes s → n * size f ≤ length s → joined f (rowsFrom f n s) ≡ take (n * size f) s
@@ -77,7 +80,7 @@ module _ {A : Type 0} (f : Format A) where
         let whole : size f + n * size f ≤ length s = rw (suc-mul n (size f), add-comm (n * size f) (size f)) at h in
         let first-room : size f ≤ length s = omega arith in
         let rest-room : n * size f ≤ length (drop (size f) s) = simp length-drop (omega arith) in
-        let numbers : f .numbers (f .row (fieldsAt (f .widths) s 0)) ≡ fieldsAt (f .widths) s 0 =
+        let numbers : f .numbers (rowAt f s 0) ≡ fieldsAt (f .widths) s 0 =
         law .back (fieldsAt (f .widths) s 0) (fields-count (f .widths) s 0) in
         rw (
           numbers,

@@ -45,8 +45,16 @@ pub record Format (A : Type 0) : Type 0 where
   pub numbers : A → List ℕ
   pub row : List ℕ → A
 
-abbrev pub size : {A : Type 0} → Format A → ℕ
-size f = sum (f .widths)
+module _ {A : Type 0} (f : Format A) where
+  abbrev pub size : ℕ
+  size = sum (f .widths)
+
+  -- the row at a place of s, and a row's bytes
+  abbrev pub rowAt : List ℕ → ℕ → A
+  rowAt s at = f .row (fieldsAt (f .widths) s at)
+
+  abbrev pub rowInBytes : A → List ℕ
+  rowInBytes x = rowBytes (f .widths) (f .numbers x)
 
 abbrev pub subjectRow : ℕ → ℕ → ℕ → SubjectRow
 subjectRow parent privileges creator = record { parent = record { 0 = parent }; privileges = privileges; creator = record { 0 = creator } }
@@ -155,7 +163,7 @@ module _ {A : Type 0} (f : Format A) where
   -- the first n rows of s
   abbrev pub rowsFrom : ℕ → List ℕ → List A
   rowsFrom zero s = []
-  rowsFrom (suc n) s = f .row (fieldsAt (f .widths) s 0) ∷ rowsFrom n (drop (size f) s)
+  rowsFrom (suc n) s = rowAt f s 0 ∷ rowsFrom n (drop (size f) s)
 
   -- the rows of a table that are in use, and its capacity
   unfoldable pub rowsIn : Table → List ℕ → List A
@@ -196,7 +204,7 @@ pub record Block : Type 0 where
 module _ {A : Type 0} (f : Format A) where
   abbrev pub joined : List A → List ℕ
   joined [] = []
-  joined (x ∷ xs) = rowBytes (f .widths) (f .numbers x) ++ joined xs
+  joined (x ∷ xs) = rowInBytes f x ++ joined xs
 
   unfoldable pub blockOf : ℕ → List A → Block
   blockOf room rows =

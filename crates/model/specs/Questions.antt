@@ -11,7 +11,7 @@ use Rattle.model.specs.declared.Answer.{Answer}
 use Rattle.model.specs.Lists.{allOf, someNumbered, ifThere}
 use Rattle.model.specs.Sorted.{find}
 use Rattle.model.specs.Tree.{inTree}
-use Rattle.model.specs.WhoAndWhat.{custodian, neededPosition, has}
+use Rattle.model.specs.WhoAndWhat.{custodian, createItems, defineSubjects, editList, has}
 use Rattle.model.specs.Image.{Tables, layoutOf, tables, encode, widthOf, size, lineFormat, grantKey, lineKey, parentIn, subjectUsed, itemIn, itemUsed, isList, isLocked, noneOrList, kindFits, layoutRules, subjectsHold, itemsHold, linesHold, grantsHold, unusedRules}
 use Rattle.model.specs.Permission.{grantOf, operationSet, permissionSet}
 use Rattle.model.specs.Calls.{Ask, Change, rowsOf, rowsBefore, isEditor, told, after, made}
@@ -72,7 +72,7 @@ unfoldable pub questions : Tables → Change → List Question
 questions t (defineSubject c r p v) =
     10 asks subjectUsed (t .subjects) c
     ∷ 11 asks subjectUsed (t .subjects) p
-    ∷ 15 asks has (neededPosition 0) (operationSet t c r)
+    ∷ 15 asks has defineSubjects (operationSet t c r)
     ∷ 16 asks inReach t c r p
     ∷ 19 asks ltb (length (t .subjects)) (t .room .subjects)
     ∷ []
@@ -97,7 +97,7 @@ questions t (setLine c r a k s v) =
     ∷ 11 asks subjectUsed (t .subjects) s
     ∷ 13 asks isList (t .items) a
     ∷ 14 asks kindFits k s
-    ∷ 15 asks has (neededPosition 2) (permissionSet t c r a)
+    ∷ 15 asks has editList (permissionSet t c r a)
     ∷ 19 asks (lineThere t a k s || ltb (length (t .lines)) (t .room .lines))
     ∷ []
 questions t (removeLine c r a k s) =
@@ -105,14 +105,14 @@ questions t (removeLine c r a k s) =
     ∷ 11 asks subjectUsed (t .subjects) s
     ∷ 13 asks isList (t .items) a
     ∷ 14 asks kindFits k s
-    ∷ 15 asks has (neededPosition 3) (permissionSet t c r a)
+    ∷ 15 asks has editList (permissionSet t c r a)
     ∷ 17 asks lineThere t a k s
     ∷ []
 questions t (createItem c r a f) =
     10 asks subjectUsed (t .subjects) c
     ∷ 13 asks noneOrList (t .items) a
     ∷ 14 asks ltb f 4
-    ∷ 15 asks has (neededPosition 1) (operationSet t c r)
+    ∷ 15 asks has createItems (operationSet t c r)
     ∷ 19 asks ltb (length (t .items)) (t .room .items)
     ∷ []
 questions t (bind c i a) =

@@ -42,11 +42,12 @@ a ∩ b = bitAnd a b
 abbrev pub within : ℕ → ℕ → Bool
 within a b = eqb (a ∩ b) a
 
--- the set of position n alone; past the last position, the empty set
+-- The rule of the code's table of masks: the set of position n alone; past the last position, the empty set.
 abbrev pub maskOf : ℕ → ℕ
 maskOf n = cond (ltb n 32) (2 ^ n) 0
 
--- the position that question 15 asks for: of define subject (0), create item (1), set line (2) and remove line (3); of no other call
+-- The rule of the code's table of needed positions: what question 15 asks for, of define subject (0), create item (1), set line (2) and remove
+-- line (3); of no other call, 32, which no set has.
 abbrev pub neededPosition : ℕ → ℕ
 neededPosition zero = defineSubjects
 neededPosition (suc zero) = createItems
