@@ -1,4 +1,3 @@
--- Laws in the form in which the code reads and writes fields and rows. The definitions are those of `model` and `edits`.
-pub mod FieldLaws
+-- Laws in the form in which the code reads and writes rows. The definitions are those of `model` and `edits`.
 pub mod RowLaws
 pub mod PutLaws

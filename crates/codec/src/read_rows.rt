@@ -2,13 +2,13 @@
 ghost use mathlib.Core.Path.{_≡_};
 ghost use lib.ListN.{getD};
 ghost use Rattle.model.specs.Image.{rowsIn, itemIn, widthOf, subjectFormat, noSubject, grantFormat, noGrant, lineFormat, noLine, itemFormat, noItem};
-use crate::fields::field;
 use crate::widths::grant_place;
 use crate::widths::item_place;
 use crate::widths::line_place;
 use crate::widths::privileges_at;
 use crate::widths::privileges_size;
 use crate::widths::subject_place;
+use fields::field;
 use model::GrantRow;
 use model::Item;
 use model::ItemRow;

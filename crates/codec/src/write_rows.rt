@@ -2,7 +2,6 @@
 ghost use mathlib.Core.Path.{_≡_};
 ghost use Rattle.model.specs.Image.{rowInBytes, widthOf, subjectFormat, grantFormat, lineFormat, itemFormat};
 ghost use Rattle.edits.specs.Edits.{putBytes};
-use crate::fields::put_field;
 use crate::widths::grant_size;
 use crate::widths::item_size;
 use crate::widths::line_size;
@@ -10,6 +9,7 @@ use crate::widths::privileges_size;
 use crate::widths::put_privileges;
 use crate::widths::subject_size;
 use edits::places;
+use fields::put_field;
 use model::GrantRow;
 use model::ItemRow;
 use model::Layout;

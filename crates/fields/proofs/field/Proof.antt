@@ -1,10 +1,10 @@
--- `codec::fields::field` meets its contract: past the end it answers 0, and else it joins the four bytes that the definition takes.
+-- `fields::field` meets its contract: past the end it answers 0, and else it joins the four bytes that the definition takes.
 use borrow.Author.Needs.{needs}
 use Rattle.model.specs.Image.{fieldAt}
 use Rattle.edits.specs.Fitting.{unfit}
-use Rattle.codec.specs.FieldLaws.{field-read}
-use Rattle.codec.proofs.fields.field.Statement.{statement}
-use Rattle.codec.proofs.fields.field.Tie as tie
+use Rattle.fields.specs.FieldLaws.{field-read}
+use Rattle.fields.proofs.field.Statement.{statement}
+use Rattle.fields.proofs.field.Tie as tie
 
 places-requires : tie.Need-places-requires
 places-requires c κs = search needs
