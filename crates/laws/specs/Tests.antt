@@ -1,12 +1,12 @@
 -- What passed tests say: of a list of tests, of every row, of a list's facts.
-use mathlib.Core.Bool.{Bool, true, false, _&&_, _||_}
+use mathlib.Core.Bool.{Bool, true, false, _&&_, _||_, not, and-true}
 use mathlib.Core.List.{List, [], _∷_, _++_}
 use mathlib.Core.Logic.{_⊎_, _≢_}
-use mathlib.Core.Path.{_≡_, refl}
+use mathlib.Core.Path.{_≡_, refl, sym, _∙_}
 use Prim.Native.Nat.{ℕ, zero, suc, _<_, _≤_}
 use native.Mathlib.Nat.{le-of-suc-le-suc, not-suc-le-zero}
 use native.Mathlib.Omega.{arith}
-use borrow.Author.Tests.{ltb-true, ltb-false, leb-true, leb-false, eqb-true, eqb-false}
+use borrow.Author.Tests.{ltb-true, ltb-false, leb-true, leb-false, eqb-true, eqb-false, not-true, not-false}
 use lib.Dec.{T, eqb, ltb, leb}
 use lib.ListN.{length, getD, set}
 use Rattle.model.specs.Lists.{allOf, every, everyNumbered, All}
@@ -48,6 +48,29 @@ or-r false b t = t
 pub or-cases : (a b : Bool) → T (a || b) → T a ⊎ T b
 or-cases true b t = _⊎_.inl tt
 or-cases false b t = _⊎_.inr t
+
+-- Tests asked one after the other, as code does. r is what is answered, t what a callee said.
+
+pub and-no : (a b : Bool) → a ≡ false → false ≡ (a && b)
+and-no a b e = rw e
+
+pub and-yes : (a b r : Bool) → a ≡ true → r ≡ b → r ≡ (a && b)
+and-yes a b r e f = rw e f
+
+pub and-last : (a r : Bool) → r ≡ a → r ≡ (a && true)
+and-last a r e = e ∙ sym (and-true a)
+
+pub or-yes : (a b : Bool) → a ≡ true → true ≡ (a || b)
+or-yes a b e = rw e
+
+pub or-no : (a b r : Bool) → a ≡ false → r ≡ b → r ≡ (a || b)
+or-no a b r e f = rw e f
+
+pub said-no : (a t : Bool) → t ≡ a → not t ≡ true → a ≡ false
+said-no a t e h = sym e ∙ not-true t h
+
+pub said-yes : (a t : Bool) → t ≡ a → not t ≡ false → a ≡ true
+said-yes a t e h = sym e ∙ not-false t h
 
 pub two : (b : Bool) → (b ≡ true) ⊎ (b ≡ false)
 two true = _⊎_.inl refl

@@ -6,6 +6,10 @@ use Prim.Native.Nat.{ℕ, zero, suc}
 use lib.Dec.{eqb, ltb}
 use Rattle.model.specs.declared.GrantRow.{GrantRow}
 use Rattle.model.specs.declared.LineRow.{LineRow}
+use Rattle.model.specs.declared.SoughtLine.{SoughtLine}
+use Rattle.model.specs.declared.SoughtLine.the-variants.{Line, NoLine}
+use Rattle.model.specs.declared.SoughtGrant.{SoughtGrant}
+use Rattle.model.specs.declared.SoughtGrant.the-variants.{Grant, NoGrant}
 use Rattle.model.specs.Lists.{orElse}
 use Rattle.model.specs.Sorted.{find}
 use Rattle.model.specs.Tree.{inTree}
@@ -16,6 +20,11 @@ use Rattle.model.specs.Image.{Tables, widthIn, itselfKind, groupKind, ow
 abbrev pub lineIn : List LineRow → ℕ → ℕ → ℕ → Option LineRow
 lineIn lines zero kind s = none
 lineIn lines (suc a) kind s = find lineKey (suc a ∷ kind ∷ s ∷ []) lines
+
+-- what a search of the code found
+abbrev pub foundLine : SoughtLine → Option LineRow
+foundLine (Line l) = some l
+foundLine NoLine = none
 
 abbrev pub lineSet : Option LineRow → ℕ
 lineSet none = 0
@@ -48,6 +57,10 @@ linesPart t s i =
 abbrev pub grantIn : List GrantRow → ℕ → ℕ → Option GrantRow
 grantIn grants s zero = none
 grantIn grants s (suc r) = find grantKey (s ∷ suc r ∷ []) grants
+
+abbrev pub foundGrant : SoughtGrant → Option GrantRow
+foundGrant (Grant g) = some g
+foundGrant NoGrant = none
 
 abbrev pub grantOf : Tables → ℕ → ℕ → Option GrantRow
 grantOf t s r = grantIn (t .grants) s r

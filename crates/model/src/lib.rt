@@ -48,6 +48,17 @@ pub struct ItemRow {
     pub flags: u32,
 }
 
+// What a search for a line answers, and one for a grant: the row, or that there is none.
+pub enum SoughtLine {
+    Line(LineRow),
+    NoLine,
+}
+
+pub enum SoughtGrant {
+    Grant(GrantRow),
+    NoGrant,
+}
+
 // One table of an image: its rows in use, the byte it starts at and the byte it ends before.
 pub struct Table {
     pub used: u32,
@@ -149,6 +160,12 @@ impl ItemRow {
         ensures { λ r. ⌜ r ≡ itemRow (owner .0) (list .0) flags ⌝ }
     {
         ItemRow { owner, list, flags }
+    }
+
+    pub fn is_list(self) -> bool
+        ensures { λ r. ⌜ r ≡ has 0 (self .flags) ⌝ }
+    {
+        self.flags & ItemRow::IS_LIST != 0
     }
 }
 

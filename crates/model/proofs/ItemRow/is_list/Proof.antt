@@ -1,0 +1,12 @@
+-- `ItemRow::is_list` meets its contract: the flags meet the mask of position 0 exactly where they have the position.
+use mathlib.Core.Path.{refl}
+use borrow.Author.Needs.{needs}
+use Rattle.model.proofs.Positions.{meets}
+use Rattle.model.proofs.ItemRow.is_list.Statement.{statement}
+use Rattle.model.proofs.ItemRow.is_list.Tie as tie
+
+returns : tie.Need-returns
+returns c = meets 0 _ _ (search needs) refl
+
+pub is-list-spec : {M : Type 1} → statement M
+is-list-spec = tie.close (tie.spec returns)

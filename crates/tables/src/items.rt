@@ -1,0 +1,37 @@
+// Items by number.
+ghost use mathlib.Core.Path.{_≡_};
+ghost use Rattle.model.specs.Image.{tablesBy, itemUsed, isList, noneOrList};
+use codec::read_rows::item_at;
+use model::Item;
+use model::Layout;
+
+pub fn item_used(image: &[u8], layout: Layout, item: Item) -> bool
+    ensures { λ r. ⌜ r ≡ itemUsed (tablesBy layout (now (image .entry)) .items) (item .0) ⌝ }
+{
+    if item.0 == 0 {
+        return false;
+    }
+    let table = layout.items;
+    item.0 <= table.used
+}
+
+// The item is an access list.
+pub fn is_list(image: &[u8], layout: Layout, item: Item) -> bool
+    ensures { λ r. ⌜ r ≡ isList (tablesBy layout (now (image .entry)) .items) (item .0) ⌝ }
+{
+    if !item_used(image, layout, item) {
+        return false;
+    }
+    let row = item_at(image, layout, item);
+    row.is_list()
+}
+
+// The item is an access list, or 0 for none.
+pub fn none_or_list(image: &[u8], layout: Layout, item: Item) -> bool
+    ensures { λ r. ⌜ r ≡ noneOrList (tablesBy layout (now (image .entry)) .items) (item .0) ⌝ }
+{
+    if item.0 == 0 {
+        return true;
+    }
+    is_list(image, layout, item)
+}

@@ -1,0 +1,44 @@
+// Subjects by number, and their tree.
+ghost use mathlib.Core.Path.{_≡_};
+ghost use Rattle.model.specs.Tree.{inTree};
+ghost use Rattle.model.specs.Image.{tablesBy, subjectUsed, parentIn, privilegesIn};
+use codec::read_rows::subject_at;
+use model::Layout;
+use model::Privileges;
+use model::Subject;
+
+pub fn subject_used(image: &[u8], layout: Layout, subject: Subject) -> bool
+    ensures { λ r. ⌜ r ≡ subjectUsed (tablesBy layout (now (image .entry)) .subjects) (subject .0) ⌝ }
+{
+    let table = layout.subjects;
+    subject.0 < table.used
+}
+
+pub fn parent_of(image: &[u8], layout: Layout, subject: Subject) -> Subject
+    ensures { λ r. ⌜ r .0 ≡ parentIn (tablesBy layout (now (image .entry)) .subjects) (subject .0) ⌝ }
+{
+    let row = subject_at(image, layout, subject.0);
+    row.parent
+}
+
+pub fn privileges_of(image: &[u8], layout: Layout, subject: Subject) -> Privileges
+    ensures { λ r. ⌜ r ≡ privilegesIn (tablesBy layout (now (image .entry)) .subjects) (subject .0) ⌝ }
+{
+    let row = subject_at(image, layout, subject.0);
+    row.privileges
+}
+
+// A subject is in the tree of a root. A tree has no number lower than its root's, so the climb ends there.
+pub fn in_tree(image: &[u8], layout: Layout, root: Subject, subject: Subject) -> bool
+    ensures { λ r. ⌜ r ≡ inTree (parentIn (tablesBy layout (now (image .entry)) .subjects)) (root .0) (subject .0) ⌝ }
+{
+    let mut at = subject;
+    while root.0 < at.0 {
+        let parent = parent_of(image, layout, at);
+        if at.0 <= parent.0 {
+            return false;
+        }
+        at = parent;
+    }
+    at.0 == root.0
+}
