@@ -2,7 +2,7 @@
 ghost use mathlib.Core.List.{[], _∷_};
 ghost use mathlib.Core.Path.{_≡_};
 ghost use Rattle.model.specs.Sorted.{before, same, place, find};
-ghost use Rattle.model.specs.Image.{tablesBy, lineKey};
+ghost use Rattle.model.specs.Image.{tablesBy, lineKey, kindFits};
 ghost use Rattle.model.specs.Permission.{foundLine};
 use codec::read_rows::line_at;
 use model::Item;
@@ -35,6 +35,19 @@ pub fn is_line(row: LineRow, list: Item, kind: u32, subject: Subject) -> bool
         return false;
     }
     row.subject.0 == subject.0
+}
+
+// There are four kinds, and the owner's and everyone's have subject 0.
+pub fn kind_fits(kind: u32, subject: Subject) -> bool
+    ensures { λ r. ⌜ r ≡ kindFits kind (subject .0) ⌝ }
+{
+    if LineRow::EVERYONE < kind {
+        return false;
+    }
+    if kind <= LineRow::GROUP {
+        return true;
+    }
+    subject.0 == 0
 }
 
 // The sorted place of a key: the number of rows with a lower one. The pass ends at the first row that is not lower.
