@@ -1,0 +1,51 @@
+-- The lines' part and what a grant adds, case by case as the code goes.
+use mathlib.Core.Bool.{Bool, true, false, not, cond}
+use mathlib.Core.Option.{none, some}
+use mathlib.Core.Path.{_≡_, sym, _∙_}
+use Prim.Native.Nat.{ℕ}
+use borrow.Author.Tests.{eq-eqb, ne-eqb}
+use lib.Dec.{eqb}
+use Rattle.model.specs.declared.GrantRow.{GrantRow}
+use Rattle.model.specs.declared.ItemRow.{ItemRow}
+use Rattle.model.specs.declared.SoughtLine.{SoughtLine}
+use Rattle.model.specs.declared.SoughtGrant.{SoughtGrant}
+use Rattle.model.specs.declared.SoughtGrant.the-variants.{Grant, NoGrant}
+use Rattle.model.specs.Lists.{orElse}
+use Rattle.model.specs.Tree.{inTree}
+use Rattle.model.specs.WhoAndWhat.{everything, _∪_, _∩_}
+use Rattle.model.specs.Image.{Tables, widthIn, itemIn, parentIn, privilegesIn, everyoneKind}
+use Rattle.model.specs.Permission.{foundLine, foundGrant, lineIn, lineSet, directLine, groupLine, partOf, linesPart, lentOperations, lentPart}
+use Rattle.laws.specs.Tests.{said-no, said-yes}
+
+module _ (t : Tables) (s i r : ℕ) where
+  pub part-custodian : s ≡ 0 → r ≡ everything (widthIn t) → r ≡ linesPart t s i
+  unfolding partOf
+  part-custodian h e = rw (eq-eqb s 0 h) e
+
+  pub part-other : (row : ItemRow) (d e : SoughtLine) (a b : ℕ)
+      → (s ≡ 0 → ⊥)
+      → row ≡ itemIn (t .items) i
+      → foundLine d ≡ orElse (directLine (t .lines) (row .owner .0) (row .list .0) s) (groupLine (parentIn (t .subjects)) (t .lines) (row .list .0) s)
+      → foundLine e ≡ lineIn (t .lines) (row .list .0) everyoneKind 0
+      → a ≡ lineSet (foundLine d)
+      → b ≡ lineSet (foundLine e)
+      → r ≡ a ∪ b
+      → r ≡ linesPart t s i
+  unfolding partOf
+  part-other row d e a b h there deciding everyone one two both =
+      rw (ne-eqb s 0 h, ← there, ← deciding, ← everyone, ← one, ← two) both
+
+module _ (t : Tables) (x : SoughtGrant) (g : GrantRow) (told : x ≡ Grant g) (r : ℕ) where
+  pub operations-lent : (p : ℕ) → p ≡ privilegesIn (t .subjects) (g .grantor .0) → r ≡ g .privileges ∩ p → r ≡ lentOperations t (foundGrant x)
+  operations-lent p e f = rw (told, ← e) f
+
+  module _ (i : ℕ) (row : ItemRow) (there : row ≡ itemIn (t .items) i)
+      (b : Bool) (asked : b ≡ inTree (parentIn (t .subjects)) (g .domain .0) (row .owner .0)) where
+    pub part-outside : not b ≡ true → 0 ≡ lentPart t i (foundGrant x)
+    part-outside out = rw (told, ← there, said-no (inTree (parentIn (t .subjects)) (g .domain .0) (row .owner .0)) b asked out)
+
+    pub part-lent : (p : ℕ) → not b ≡ false → p ≡ linesPart t (g .grantor .0) i → r ≡ g .privileges ∩ p → r ≡ lentPart t i (foundGrant x)
+    part-lent p inside e f = rw (told, ← e, ← there, said-yes (inTree (parentIn (t .subjects)) (g .domain .0) (row .owner .0)) b asked inside) f
+
+pub part-none : (t : Tables) (x : SoughtGrant) (i : ℕ) → x ≡ NoGrant → 0 ≡ lentPart t i (foundGrant x)
+part-none t x i told = rw told
