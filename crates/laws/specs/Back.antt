@@ -18,44 +18,7 @@ use Rattle.laws.specs.Fields.{fields-back, bytes-drop}
 use Rattle.laws.specs.Rows.{Lawful, rows-count, rows-fit, subject-lawful, grant-lawful, line-lawful, item-lawful}
 use Rattle.laws.specs.Blocks.{starts-before-end, rows-few, header-block, body-block, total-block}
 use Rattle.laws.specs.Answers.{image-passed}
-
--- What questions 1, 2 and 7 say of an accepted image.
-record Laid (img : List ℕ) : Type 0 where
-  long : 36 ≤ length img
-  short : length img ≤ 65536
-  total : layoutOf img .items .end ≡ length img
-  first : headerSize ≡ layoutOf img .subjects .start
-  custodian-used : 1 ≤ layoutOf img .subjects .used
-  subjects-lie : T (tableLies (subjectFormat (widthOf (layoutOf img))) (layoutOf img .subjects))
-  grants-lie : T (tableLies (grantFormat (widthOf (layoutOf img))) (layoutOf img .grants))
-  lines-lie : T (tableLies (lineFormat (widthOf (layoutOf img))) (layoutOf img .lines))
-  items-lie : T (tableLies itemFormat (layoutOf img .items))
-  subjects-blank : T (zeros (unused (subjectFormat (widthOf (layoutOf img))) (layoutOf img .subjects) img))
-  grants-blank : T (zeros (unused (grantFormat (widthOf (layoutOf img))) (layoutOf img .grants) img))
-  lines-blank : T (zeros (unused (lineFormat (widthOf (layoutOf img))) (layoutOf img .lines) img))
-  items-blank : T (zeros (unused itemFormat (layoutOf img .items) img))
-
-laid : (img : List ℕ) → check img ≡ 0 → Laid img
-unfolding imageQuestions layoutRules unusedRules
-laid img e =
-    let passed : Passed (imageQuestions img) = image-passed img e in
-    let lay = yes-all (layoutRules (layoutOf img) img) (passed .1 .0) in
-    let blank = yes-all (unusedRules (layoutOf img) img) (passed .1 .1 .1 .1 .1 .1 .0) in
-    record {
-      long = leb→le 36 (length img) (and-l (leb 36 (length img)) (leb (length img) 65536) (passed .0));
-      short = leb→le (length img) 65536 (and-r (leb 36 (length img)) (leb (length img) 65536) (passed .0));
-      total = eqb→eq _ _ (lay .0);
-      first = sym (eqb→eq _ _ (lay .1 .0));
-      subjects-lie = lay .1 .1 .0;
-      grants-lie = lay .1 .1 .1 .0;
-      lines-lie = lay .1 .1 .1 .1 .0;
-      items-lie = lay .1 .1 .1 .1 .1 .0;
-      custodian-used = leb→le _ _ (lay .1 .1 .1 .1 .1 .1 .0);
-      subjects-blank = blank .0;
-      grants-blank = blank .1 .0;
-      lines-blank = blank .1 .1 .0;
-      items-blank = blank .1 .1 .1 .0;
-    }
+use Rattle.laws.specs.Laid.{Laid, laid, subjects-inside, grants-inside, lines-inside, items-inside}
 
 module _ (img : List ℕ) (accepted : Accepted img) where
   facts : Laid img
@@ -63,21 +26,6 @@ module _ (img : List ℕ) (accepted : Accepted img) where
 
   abbrev w : ℕ
   w = widthOf (layoutOf img)
-
-  items-inside : layoutOf img .items .end ≤ length img
-  items-inside = omega (arith, facts .total)
-
-  lines-inside : layoutOf img .lines .end ≤ length img
-  unfolding layoutOf
-  lines-inside = omega (arith, items-inside, starts-before-end itemFormat item-lawful (layoutOf img .items) img (facts .items-lie))
-
-  grants-inside : layoutOf img .grants .end ≤ length img
-  unfolding layoutOf
-  grants-inside = omega (arith, lines-inside, starts-before-end (lineFormat w) (line-lawful w) (layoutOf img .lines) img (facts .lines-lie))
-
-  subjects-inside : layoutOf img .subjects .end ≤ length img
-  unfolding layoutOf
-  subjects-inside = omega (arith, grants-inside, starts-before-end (grantFormat w) (grant-lawful w) (layoutOf img .grants) img (facts .grants-lie))
 
   -- the blocks from the k-th on
   abbrev blocks-from : ℕ → List Block
@@ -94,10 +42,10 @@ module _ (img : List ℕ) (accepted : Accepted img) where
   body-back : bodyOf (blocks (tables img)) ≡ drop headerSize img
   unfolding tablesBy layoutOf
   body-back =
-      body-block (subjectFormat w) (subject-lawful w) (layoutOf img .subjects) img (facts .subjects-lie) (blocks-from 1) (accepted .bytes) subjects-inside (facts .subjects-blank)
-      (body-block (grantFormat w) (grant-lawful w) (layoutOf img .grants) img (facts .grants-lie) (blocks-from 2) (accepted .bytes) grants-inside (facts .grants-blank)
-      (body-block (lineFormat w) (line-lawful w) (layoutOf img .lines) img (facts .lines-lie) (blocks-from 3) (accepted .bytes) lines-inside (facts .lines-blank)
-      (body-block itemFormat item-lawful (layoutOf img .items) img (facts .items-lie) (blocks-from 4) (accepted .bytes) items-inside (facts .items-blank)
+      body-block (subjectFormat w) (subject-lawful w) (layoutOf img .subjects) img (facts .subjects-lie) (blocks-from 1) (accepted .bytes) (subjects-inside img facts) (facts .subjects-blank)
+      (body-block (grantFormat w) (grant-lawful w) (layoutOf img .grants) img (facts .grants-lie) (blocks-from 2) (accepted .bytes) (grants-inside img facts) (facts .grants-blank)
+      (body-block (lineFormat w) (line-lawful w) (layoutOf img .lines) img (facts .lines-lie) (blocks-from 3) (accepted .bytes) (lines-inside img facts) (facts .lines-blank)
+      (body-block itemFormat item-lawful (layoutOf img .items) img (facts .items-lie) (blocks-from 4) (accepted .bytes) (items-inside img facts) (facts .items-blank)
       (sym (drop-length img) ∙ ap (λ (n : ℕ). drop n img) (sym (facts .total))))))
       ∙ ap (λ (n : ℕ). drop n img) (sym (facts .first))
 

@@ -11,6 +11,7 @@ pub mod Answers
 pub mod Fields
 pub mod Rows
 pub mod Blocks
+pub mod Laid
 pub mod Back
 pub mod There
 -- Last the calls: each keeps the tables well-formed, and from an accepted image leaves an accepted one.

@@ -50,6 +50,13 @@ module _ {A : Type 0} (f : Format A) where
       let past : length (rowsIn f t img) ≤ k = rw (rows-count t img) h in
       List·getD-eq-default (rowsIn f t img) d past
 
+  -- the rows from the k-th on begin with it
+  pub rows-next : (t : Table) (img : List ℕ) (d : A) (k : ℕ) (x : A) → k < t .used → x ≡ getD (rowsIn f t img) k d
+      → drop k (rowsIn f t img) ≡ x ∷ drop (suc k) (rowsIn f t img)
+  rows-next t img d k x h e =
+      let there : k < length (rowsIn f t img) = rw (rows-count t img) h in
+      drop-cons (rowsIn f t img) k d there ∙ ap (λ (y : A). y ∷ drop (suc k) (rowsIn f t img)) (sym e)
+
   -- Rows to bytes and back.
 
   pub joined-bytes : (xs : List A) → Bytes (joined f xs)

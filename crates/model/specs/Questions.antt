@@ -128,9 +128,12 @@ questions t (handOver c i o) =
     ∷ 15 asks eqb c custodian
     ∷ []
 
+abbrev pub answer : ℕ → ℕ → Answer
+answer n r = record { number = n; result = r }
+
 -- A refusal has its number and result 0, success number 0 and the result.
 abbrev pub answered : ℕ → ℕ → Answer
-answered n r = record { number = n; result = cond (eqb n 0) r 0 }
+answered n r = answer n (cond (eqb n 0) r 0)
 
 -- Check an image.
 unfoldable pub check : List ℕ → ℕ

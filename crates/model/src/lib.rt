@@ -3,6 +3,7 @@
 ghost use mathlib.Core.Path.{_≡_};
 ghost use Rattle.model.specs.WhoAndWhat.{maskOf, neededPosition, has, within, _∪_, _∩_};
 ghost use Rattle.model.specs.Image.{subjectRow, grantRow, lineRow, itemRow};
+ghost use Rattle.model.specs.Questions.{answer};
 
 pub mod refusal;
 
@@ -79,6 +80,20 @@ pub struct Layout {
 pub struct Answer {
     pub number: u32,
     pub result: u32,
+}
+
+impl Answer {
+    pub fn refused(number: u32) -> Answer
+        ensures { λ r. ⌜ r ≡ answer number 0 ⌝ }
+    {
+        Answer { number, result: 0 }
+    }
+
+    pub fn done(result: u32) -> Answer
+        ensures { λ r. ⌜ r ≡ answer 0 result ⌝ }
+    {
+        Answer { number: 0, result }
+    }
 }
 
 impl Layout {

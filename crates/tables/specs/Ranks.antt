@@ -8,11 +8,10 @@ use native.Mathlib.Nat.{zero-add}
 use native.Mathlib.Omega.{arith}
 use borrow.Author.Tests.{lt-ltb, le-ltb, not-true, not-false}
 use lib.ListN.{length, getD, drop, drop-of-length-le}
-use lib.Seq.{drop-cons}
 use Rattle.model.specs.declared.Table.{Table}
 use Rattle.model.specs.Sorted.{before, same, place, find}
 use Rattle.model.specs.Image.{Format, rowsIn}
-use Rattle.laws.specs.Rows.{rows-count}
+use Rattle.laws.specs.Rows.{rows-count, rows-next}
 use Rattle.laws.specs.Sorted.{find-by-place}
 
 module _ {A : Type 0} (f : Format A) (key : A → List ℕ) (t : Table) (img k : List ℕ) (d : A) where
@@ -24,12 +23,6 @@ module _ {A : Type 0} (f : Format A) (key : A → List ℕ) (t : Table) (img k :
   pub none-counted : Counted 0
   none-counted = record { inside = omega arith; lower = sym (zero-add (place key k (rowsIn f t img))) }
 
-  -- the rows from n on begin with row n
-  next-row : (n : ℕ) (x : A) → n < t .used → x ≡ getD (rowsIn f t img) n d → drop n (rowsIn f t img) ≡ x ∷ drop (suc n) (rowsIn f t img)
-  next-row n x h e =
-      let there : n < length (rowsIn f t img) = rw (rows-count f t img) h in
-      drop-cons (rowsIn f t img) n d there ∙ ap (λ (y : A). y ∷ drop (suc n) (rowsIn f t img)) (sym e)
-
   pub counted-here : (n : ℕ) (x : A) (b : Bool)
       → Counted n
       → n < t .used
@@ -39,7 +32,7 @@ module _ {A : Type 0} (f : Format A) (key : A → List ℕ) (t : Table) (img k :
       → n ≡ place key k (rowsIn f t img)
   unfolding place
   counted-here n x b c h e l higher =
-      let here : place key k (drop n (rowsIn f t img)) ≡ 0 = rw (next-row n x h e, ← l, not-true b higher) in
+      let here : place key k (drop n (rowsIn f t img)) ≡ 0 = rw (rows-next f t img d n x h e, ← l, not-true b higher) in
       omega (arith, c .lower)
 
   pub counted-next : (n : ℕ) (x : A) (b : Bool)
@@ -51,7 +44,7 @@ module _ {A : Type 0} (f : Format A) (key : A → List ℕ) (t : Table) (img k :
       → Counted (n + 1)
   unfolding place
   counted-next n x b c h e l low =
-      let more : place key k (drop n (rowsIn f t img)) ≡ suc (place key k (drop (suc n) (rowsIn f t img))) = rw (next-row n x h e, ← l, not-false b low) in
+      let more : place key k (drop n (rowsIn f t img)) ≡ suc (place key k (drop (suc n) (rowsIn f t img))) = rw (rows-next f t img d n x h e, ← l, not-false b low) in
       let one : n + 1 ≡ suc n = omega arith in
       rw one (record { inside = omega arith; lower = omega (arith, c .lower) })
 

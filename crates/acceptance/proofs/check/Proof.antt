@@ -1,0 +1,74 @@
+-- `acceptance::check` meets its contract: one question after the other.
+use borrow.Author.Needs.{needs}
+use Rattle.acceptance.specs.Seven.{answers-0, answers-1, answers-2, answers-3, answers-4, answers-5, answers-6, answers-7}
+use Rattle.acceptance.proofs.check.Statement.{statement}
+use Rattle.acceptance.proofs.check.Tie as tie
+
+length-fits-requires : tie.Need-length-fits-requires
+length-fits-requires c κs = search needs
+
+returns : tie.Need-returns
+returns c = search answers-1
+
+layout-of-requires : tie.Need-layout-of-requires
+layout-of-requires c κs = search needs
+
+layout-holds-requires : tie.Need-layout-holds-requires
+layout-holds-requires c κs = search needs
+
+returns-2 : tie.Need-returns-2
+returns-2 c = search answers-2
+
+subjects-hold-requires : tie.Need-subjects-hold-requires
+subjects-hold-requires c κs = search needs
+
+returns-3 : tie.Need-returns-3
+returns-3 c = search answers-3
+
+items-hold-requires : tie.Need-items-hold-requires
+items-hold-requires c κs = search needs
+
+returns-4 : tie.Need-returns-4
+returns-4 c = search answers-4
+
+lines-hold-requires : tie.Need-lines-hold-requires
+lines-hold-requires c κs = search needs
+
+returns-5 : tie.Need-returns-5
+returns-5 c = search answers-5
+
+grants-hold-requires : tie.Need-grants-hold-requires
+grants-hold-requires c κs = search needs
+
+returns-6 : tie.Need-returns-6
+returns-6 c = search answers-6
+
+unused-is-zero-requires : tie.Need-unused-is-zero-requires
+unused-is-zero-requires c κs = search needs
+
+returns-7 : tie.Need-returns-7
+returns-7 c = search answers-7
+
+returns-8 : tie.Need-returns-8
+returns-8 c = search answers-0
+
+pub check-spec : {M : Type 1} → statement M
+check-spec =
+    tie.close
+    (tie.spec
+    length-fits-requires
+    returns
+    layout-of-requires
+    layout-holds-requires
+    returns-2
+    subjects-hold-requires
+    returns-3
+    items-hold-requires
+    returns-4
+    lines-hold-requires
+    returns-5
+    grants-hold-requires
+    returns-6
+    unused-is-zero-requires
+    returns-7
+    returns-8)

@@ -1,0 +1,45 @@
+-- Question 2: the rules of one table, told by a callee that knows the size of its rows as a number.
+use mathlib.Core.Bool.{Bool, true, false, _&&_, not}
+use mathlib.Core.List.{[], _∷_}
+use mathlib.Core.Path.{_≡_, ap, _∙_}
+use Prim.Native.Nat.{ℕ, _-_, _/_, _%_, _<_}
+use lib.Dec.{eqb, leb}
+use Rattle.model.specs.declared.Table.{Table}
+use Rattle.model.specs.declared.Layout.{Layout}
+use Rattle.model.specs.Lists.{allOf}
+use Rattle.model.specs.Image.{Format, size, subjectFormat, grantFormat, lineFormat, itemFormat, widthOf}
+use Rattle.laws.specs.Tests.{and-no, and-yes, said-no, said-yes}
+use Rattle.laws.specs.Rows.{Lawful, subject-lawful, grant-lawful, line-lawful, item-lawful}
+
+-- No row is empty: what a table's rules ask of the size. n is the size as a callee told it.
+
+sized-wide : {A : Type 0} (f : Format A) (n : ℕ) → Lawful f → n ≡ size f → 0 < n
+sized-wide f n law sized = rw sized (law .wide)
+
+module _ (lay : Layout) (n : ℕ) where
+  pub subjects-wide : n ≡ size (subjectFormat (widthOf lay)) → 0 < n
+  subjects-wide = sized-wide (subjectFormat (widthOf lay)) n (subject-lawful (widthOf lay))
+
+  pub grants-wide : n ≡ size (grantFormat (widthOf lay)) → 0 < n
+  grants-wide = sized-wide (grantFormat (widthOf lay)) n (grant-lawful (widthOf lay))
+
+  pub lines-wide : n ≡ size (lineFormat (widthOf lay)) → 0 < n
+  lines-wide = sized-wide (lineFormat (widthOf lay)) n (line-lawful (widthOf lay))
+
+pub items-wide : (n : ℕ) → n ≡ size itemFormat → 0 < n
+items-wide n = sized-wide itemFormat n item-lawful
+
+-- the rules of one table whose rows have n bytes
+abbrev pub liesBy : ℕ → Table → Bool
+liesBy n t = allOf (leb (t .start) (t .end) ∷ eqb ((t .end - t .start) % n) 0 ∷ leb (t .used) ((t .end - t .start) / n) ∷ [])
+
+-- One table among the rules: b is what was told of it, n the size with which it was asked, m the size by the definition. The rest of the list follows.
+module _ (t : Table) (n m : ℕ) (b rest : Bool) (told : b ≡ liesBy n t) (sized : n ≡ m) where
+  lies-sized : b ≡ liesBy m t
+  lies-sized = told ∙ ap (λ (k : ℕ). liesBy k t) sized
+
+  pub lies-no : not b ≡ true → false ≡ (liesBy m t && rest)
+  lies-no h = and-no (liesBy m t) rest (said-no (liesBy m t) b lies-sized h)
+
+  pub lies-yes : (r : Bool) → not b ≡ false → r ≡ rest → r ≡ (liesBy m t && rest)
+  lies-yes r h e = and-yes (liesBy m t) rest r (said-yes (liesBy m t) b lies-sized h) e

@@ -1,0 +1,39 @@
+-- A call that asks, return by return: refused by the image, by one of its own questions, or done.
+use mathlib.Core.List.{List, _++_}
+use mathlib.Core.Path.{_≡_, sym, ap, _∙_}
+use Prim.Native.Nat.{ℕ, suc}
+use native.Mathlib.Omega.{arith}
+use borrow.Author.Tests.{eq-eqb, ne-eqb}
+use Rattle.model.specs.declared.Answer.{Answer}
+use Rattle.model.specs.declared.Layout.{Layout}
+use Rattle.model.specs.Image.{layoutOf, tablesBy, tables}
+use Rattle.model.specs.Calls.{Ask, told}
+use Rattle.model.specs.Questions.{Question, firstNo, imageQuestions, askQuestions, answer, answered, check, ask}
+use Rattle.laws.specs.Answers.{image-first}
+
+-- Any call's questions after those of the image. n is what the check said.
+module _ (img : List ℕ) (n : ℕ) (checked : n ≡ check img) (qs : List Question) where
+  pub number-image : (n ≡ 0 → ⊥) → n ≡ firstNo (imageQuestions img ++ qs)
+  number-image h = sym (image-first img qs ∙ rw (← checked, ne-eqb n 0 h))
+
+  pub number-own : n ≡ 0 → firstNo qs ≡ firstNo (imageQuestions img ++ qs)
+  number-own h = sym (image-first img qs ∙ rw (← checked, eq-eqb n 0 h))
+
+module _ (img : List ℕ) (n : ℕ) (checked : n ≡ check img) (q : Ask) (a : Answer) where
+  pub ask-image : (n ≡ 0 → ⊥) → a ≡ answer n 0 → a ≡ ask img q
+  unfolding ask
+  ask-image h e = e ∙ rw (← number-image img n checked (askQuestions (tables img) q) h, ne-eqb n 0 h)
+
+  module _ (ok : n ≡ 0) (lay : Layout) (there : lay ≡ layoutOf img) where
+    own : ask img q ≡ answered (firstNo (askQuestions (tablesBy lay img) q)) (told (tablesBy lay img) q)
+    unfolding ask
+    own =
+        sym
+        (ap (λ (l : Layout). answered (firstNo (askQuestions (tablesBy l img) q)) (told (tablesBy l img) q)) there
+        ∙ ap (λ (k : ℕ). answered k (told (tables img) q)) (number-own img n checked (askQuestions (tables img) q) ok))
+
+    pub ask-no : (k : ℕ) → suc k ≡ firstNo (askQuestions (tablesBy lay img) q) → a ≡ answer (suc k) 0 → a ≡ ask img q
+    ask-no k h e = e ∙ sym (own ∙ rw (← h, ne-eqb (suc k) 0 (λ z. omega arith)))
+
+    pub ask-done : (v : ℕ) → 0 ≡ firstNo (askQuestions (tablesBy lay img) q) → v ≡ told (tablesBy lay img) q → a ≡ answer 0 v → a ≡ ask img q
+    ask-done v h f e = e ∙ sym (own ∙ rw (← h, ← f))

@@ -1,0 +1,73 @@
+-- What the questions say of where an accepted image's tables lie.
+use mathlib.Core.List.{List}
+use mathlib.Core.Path.{_≡_, sym}
+use Prim.Native.Nat.{ℕ, _≤_}
+use native.Mathlib.Omega.{arith}
+use lib.Dec.{T, leb, leb→le, eqb→eq}
+use lib.ListN.{length}
+use Rattle.model.specs.Lists.{zeros}
+use Rattle.model.specs.Image.{widthOf, layoutOf, subjectFormat, grantFormat, lineFormat, itemFormat, headerSize, tableLies, unused, layoutRules, unusedRules}
+use Rattle.model.specs.Questions.{imageQuestions, check}
+use Rattle.laws.specs.Tests.{yes-all, and-l, and-r}
+use Rattle.laws.specs.WellFormed.{Passed}
+use Rattle.laws.specs.Rows.{grant-lawful, line-lawful, item-lawful}
+use Rattle.laws.specs.Blocks.{starts-before-end}
+use Rattle.laws.specs.Answers.{image-passed}
+
+-- questions 1, 2 and 7
+pub record Laid (img : List ℕ) : Type 0 where
+  pub long : 36 ≤ length img
+  pub short : length img ≤ 65536
+  pub total : layoutOf img .items .end ≡ length img
+  pub first : headerSize ≡ layoutOf img .subjects .start
+  pub custodian-used : 1 ≤ layoutOf img .subjects .used
+  pub subjects-lie : T (tableLies (subjectFormat (widthOf (layoutOf img))) (layoutOf img .subjects))
+  pub grants-lie : T (tableLies (grantFormat (widthOf (layoutOf img))) (layoutOf img .grants))
+  pub lines-lie : T (tableLies (lineFormat (widthOf (layoutOf img))) (layoutOf img .lines))
+  pub items-lie : T (tableLies itemFormat (layoutOf img .items))
+  pub subjects-blank : T (zeros (unused (subjectFormat (widthOf (layoutOf img))) (layoutOf img .subjects) img))
+  pub grants-blank : T (zeros (unused (grantFormat (widthOf (layoutOf img))) (layoutOf img .grants) img))
+  pub lines-blank : T (zeros (unused (lineFormat (widthOf (layoutOf img))) (layoutOf img .lines) img))
+  pub items-blank : T (zeros (unused itemFormat (layoutOf img .items) img))
+
+pub laid : (img : List ℕ) → check img ≡ 0 → Laid img
+unfolding imageQuestions layoutRules unusedRules
+laid img e =
+    let passed : Passed (imageQuestions img) = image-passed img e in
+    let lay = yes-all (layoutRules (layoutOf img) img) (passed .1 .0) in
+    let blank = yes-all (unusedRules (layoutOf img) img) (passed .1 .1 .1 .1 .1 .1 .0) in
+    record {
+      long = leb→le 36 (length img) (and-l (leb 36 (length img)) (leb (length img) 65536) (passed .0));
+      short = leb→le (length img) 65536 (and-r (leb 36 (length img)) (leb (length img) 65536) (passed .0));
+      total = eqb→eq _ _ (lay .0);
+      first = sym (eqb→eq _ _ (lay .1 .0));
+      subjects-lie = lay .1 .1 .0;
+      grants-lie = lay .1 .1 .1 .0;
+      lines-lie = lay .1 .1 .1 .1 .0;
+      items-lie = lay .1 .1 .1 .1 .1 .0;
+      custodian-used = leb→le _ _ (lay .1 .1 .1 .1 .1 .1 .0);
+      subjects-blank = blank .0;
+      grants-blank = blank .1 .0;
+      lines-blank = blank .1 .1 .0;
+      items-blank = blank .1 .1 .1 .0;
+    }
+
+-- Every table ends inside.
+module _ (img : List ℕ) (facts : Laid img) where
+  abbrev w : ℕ
+  w = widthOf (layoutOf img)
+
+  pub items-inside : layoutOf img .items .end ≤ length img
+  items-inside = omega (arith, facts .total)
+
+  pub lines-inside : layoutOf img .lines .end ≤ length img
+  unfolding layoutOf
+  lines-inside = omega (arith, items-inside, starts-before-end itemFormat item-lawful (layoutOf img .items) img (facts .items-lie))
+
+  pub grants-inside : layoutOf img .grants .end ≤ length img
+  unfolding layoutOf
+  grants-inside = omega (arith, lines-inside, starts-before-end (lineFormat w) (line-lawful w) (layoutOf img .lines) img (facts .lines-lie))
+
+  pub subjects-inside : layoutOf img .subjects .end ≤ length img
+  unfolding layoutOf
+  subjects-inside = omega (arith, grants-inside, starts-before-end (grantFormat w) (grant-lawful w) (layoutOf img .grants) img (facts .grants-lie))
