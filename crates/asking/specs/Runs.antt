@@ -28,6 +28,13 @@ unfoldable pub leading : ℕ → List LineRow → ℕ
 leading a [] = 0
 leading a (l ∷ ls) = cond (eqb (l .list .0) a) (suc (leading a ls)) 0
 
+pub leading-few : (a : ℕ) (rows : List LineRow) → leading a rows ≤ length rows
+unfolding leading
+leading-few a [] = omega arith
+leading-few a (l ∷ ls) =
+    let ih : leading a ls ≤ length ls = leading-few a ls in
+    elim (eqb (l .list .0) a) as (λ b. cond b (suc (leading a ls)) 0 ≤ suc (length ls)) [ true ↦ omega arith | false ↦ omega arith ]
+
 -- Counted row by row, from row `first` on.
 module _ (f : Format LineRow) (t : Table) (img : List ℕ) (a first : ℕ) where
   pub record Run (end : ℕ) : Type 0 where

@@ -126,6 +126,9 @@ module _ {A : Type 0} (f : Format A) where
         let split : capacity f t * size f + (t .end - t .start) % size f ≡ t .end - t .start = div-add-mod' (t .end - t .start) (size f) in
         omega arith
 
+    pub rows-extent : t .used * size f ≤ t .end - t .start
+    rows-extent = rw extent-back at (mul-le-mul-right (size f) rows-few)
+
     -- where the next table starts
     pub next-start : {at : ℕ} → at ≡ t .start → at + blockOf f (capacity f t) (rowsIn f t img) .extent ≡ t .end
     next-start e =
@@ -142,7 +145,7 @@ module _ {A : Type 0} (f : Format A) where
     unfolding blockOf
     block-back b inside blank =
         let first : t .start ≤ t .end = starts-before-end in
-        let in-room : t .used * size f ≤ t .end - t .start = rw extent-back at (mul-le-mul-right (size f) rows-few) in
+        let in-room : t .used * size f ≤ t .end - t .start = rows-extent in
         let in-image : t .used * size f ≤ length (drop (t .start) img) = simp length-drop (omega arith) in
         let gap : ℕ = t .end - t .start - t .used * size f in
         let behind : drop (t .used * size f) (drop (t .start) img) ≡ drop (t .start + t .used * size f) img = drop-drop (t .used * size f) (t .start) img in
