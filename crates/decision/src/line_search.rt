@@ -64,7 +64,7 @@ pub fn deciding_line(
 {
     let direct = direct_line(image, layout, owner, list, subject);
     match direct {
-        SoughtLine::Line(line) => SoughtLine::Line(line),
+        SoughtLine::Line(own) => SoughtLine::Line(own),
         SoughtLine::NoLine => group_line(image, layout, list, subject),
     }
 }

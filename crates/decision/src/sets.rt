@@ -34,10 +34,9 @@ pub fn operations_under(
 ) -> Privileges
     ensures { λ r. ⌜ r ≡ operationUnder (tablesBy layout (now (image .entry))) (subject .0) (foundGrant grant) ⌝ }
 {
-    union(
-        privileges_of(image, layout, subject),
-        lent_operations(image, layout, grant),
-    )
+    let own = privileges_of(image, layout, subject);
+    let lent = lent_operations(image, layout, grant);
+    union(own, lent)
 }
 
 pub fn objects_under(
@@ -49,10 +48,9 @@ pub fn objects_under(
 ) -> Privileges
     ensures { λ r. ⌜ r ≡ objectUnder (tablesBy layout (now (image .entry))) (subject .0) (foundGrant grant) (item .0) ⌝ }
 {
-    union(
-        lines_part(image, layout, subject, item),
-        lent_part(image, layout, item, grant),
-    )
+    let own = lines_part(image, layout, subject, item);
+    let lent = lent_part(image, layout, item, grant);
+    union(own, lent)
 }
 
 pub fn permissions_under(
@@ -64,10 +62,9 @@ pub fn permissions_under(
 ) -> Privileges
     ensures { λ r. ⌜ r ≡ permissionUnder (tablesBy layout (now (image .entry))) (subject .0) (foundGrant grant) (item .0) ⌝ }
 {
-    intersection(
-        operations_under(image, layout, subject, grant),
-        objects_under(image, layout, subject, grant, item),
-    )
+    let operations = operations_under(image, layout, subject, grant);
+    let objects = objects_under(image, layout, subject, grant, item);
+    intersection(operations, objects)
 }
 
 // The operation set.
