@@ -1,4 +1,4 @@
--- The editor search: subjects are tried one after the other, from the first after the custodian.
+-- The editor search, return by return.
 use mathlib.Core.Bool.{Bool, true, false, not, false≢true}
 use mathlib.Core.List.{List, [], _++_}
 use mathlib.Core.Logic.{inl, inr}
@@ -20,59 +20,11 @@ use Rattle.model.specs.Questions.{firstNo, imageQuestions, editorQuestions, ans
 use Rattle.laws.specs.Tests.{two, le-or-lt, lt-eq-gt, true-T, T-true, every-at, every-by}
 use Rattle.laws.specs.Rows.{rows-count}
 use Rattle.laws.specs.Answers.{asked-no, asked-yes, asked-all}
+use Rattle.editors.specs.Editors.{Editor, not-used}
 use Rattle.asking.specs.Returns.{number-image, number-own}
 
+-- Question 20.
 module _ (t : Tables) (a : ℕ) where
-  -- r is an editor, or 0 where there is none
-  pub record Editor (r : ℕ) : Type 0 where
-    pub nobody : r ≡ 0 → (s : ℕ) → isEditor t a s ≡ false
-    pub somebody : (r ≡ 0 → ⊥) → isEditor t a r ≡ true
-
-  -- no subject below n is an editor
-  pub record Tried (n : ℕ) : Type 0 where
-    pub after-custodian : 1 ≤ n
-    pub passed : (s : ℕ) → s < n → isEditor t a s ≡ false
-
-  pub tried-none : Tried 1
-  tried-none = record { after-custodian = omega arith; passed = λ s h. custodian-not s (omega arith) }
-    where
-      custodian-not : (s : ℕ) → s ≡ 0 → isEditor t a s ≡ false
-      custodian-not s z = rw (eq-eqb s 0 z) (elim (two (subjectUsed (t .subjects) s)) [ inl e ↦ rw e | inr e ↦ rw e ])
-
-  not-used : (s : ℕ) → length (t .subjects) ≤ s → isEditor t a s ≡ false
-  not-used s h = rw (le-ltb s (length (t .subjects)) h)
-
-  -- u rows are in use
-  module _ (u : ℕ) (used : u ≡ length (t .subjects)) (n : ℕ) (tried : Tried n) where
-    module _ (h : n < u) (b : Bool) (asked : b ≡ has editList (permissionSet t n 0 a)) where
-      looked : isEditor t a n ≡ b
-      looked =
-          let there : n < length (t .subjects) = omega arith in
-          let other : n ≡ 0 → ⊥ = λ z. omega (arith, tried .after-custodian) in
-          rw (lt-ltb n (length (t .subjects)) there, ne-eqb n 0 other) (sym asked)
-
-      pub tried-here : b ≡ true → Editor n
-      tried-here e = record { nobody = λ z. absurd (omega (arith, tried .after-custodian)); somebody = λ d. looked ∙ e }
-
-      pub tried-next : b ≡ false → Tried (n + 1)
-      tried-next e = record { after-custodian = omega arith; passed = further }
-        where
-          further : (s : ℕ) → s < n + 1 → isEditor t a s ≡ false
-          further s l =
-              elim (lt-eq-gt s n) [
-                | inl low ↦ tried .passed s low
-                | inr (inl here) ↦ rw here (looked ∙ e)
-                | inr (inr high) ↦ absurd (omega arith)
-              ]
-
-    pub tried-all : u ≤ n → Editor 0
-    tried-all h = record { nobody = λ z. all; somebody = λ d. absurd (d refl) }
-      where
-        all : (s : ℕ) → isEditor t a s ≡ false
-        all s = elim (le-or-lt n s) [ inl past ↦ not-used s (omega arith) | inr low ↦ tried .passed s low ]
-
-  -- Question 20.
-
   none-there : ((s : ℕ) → isEditor t a s ≡ false) → someNumbered (λ s (row : SubjectRow). isEditor t a s) (t .subjects) ≡ false
   none-there h =
       let all : T (everyNumbered (λ s (row : SubjectRow). not (isEditor t a s)) (t .subjects)) =
@@ -83,7 +35,7 @@ module _ (t : Tables) (a : ℕ) where
   one-there s e = go (everyNumbered (λ s (row : SubjectRow). not (isEditor t a s)) (t .subjects)) refl
     where
       used : s < length (t .subjects)
-      used = elim (le-or-lt (length (t .subjects)) s) [ inl past ↦ absurd (false≢true (sym (not-used s past) ∙ e)) | inr low ↦ low ]
+      used = elim (le-or-lt (length (t .subjects)) s) [ inl past ↦ absurd (false≢true (sym (not-used t a s past) ∙ e)) | inr low ↦ low ]
 
       go : (b : Bool) → everyNumbered (λ s (row : SubjectRow). not (isEditor t a s)) (t .subjects) ≡ b → not b ≡ true
       go true all =
@@ -135,8 +87,3 @@ module _ (img : List ℕ) (n : ℕ) (checked : n ≡ check img) (a : ℕ) (r : A
             refused = λ h. absurd (h (ap (λ (x : Answer). x .number) e));
             found = λ z. rw (e, ← there) (true-T (isEditor (tablesBy lay img) a s) is);
           }
-
--- as many subjects as the layout says
-pub subjects-used : (lay : Layout) (img : List ℕ) → lay .subjects .used ≡ length (tablesBy lay img .subjects)
-unfolding tablesBy
-subjects-used lay img = sym (rows-count (subjectFormat (widthOf lay)) (lay .subjects) img)

@@ -1,5 +1,4 @@
 -- Laws in the form in which the calls that ask answer. The definitions are those of `model`.
 pub mod Returns
-pub mod Runs
 pub mod Shown
 pub mod Editors

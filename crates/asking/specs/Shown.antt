@@ -25,7 +25,7 @@ use Rattle.laws.specs.Rows.{rows-count, line-lawful}
 use Rattle.laws.specs.Blocks.{starts-before-end, rows-extent}
 use Rattle.laws.specs.Laid.{Laid, laid, lines-inside}
 use Rattle.asking.specs.Returns.{ask-image, ask-no, ask-done}
-use Rattle.asking.specs.Runs.{lowest, leading, leading-few, run-begins, run-counts}
+use Rattle.listing.specs.Runs.{lowest, leading, leading-few, run-begins, run-counts}
 
 -- the bytes of a line
 abbrev lineSize : List ℕ → ℕ

@@ -3,13 +3,13 @@ ghost use mathlib.Core.Path.{_≡_};
 ghost use Prim.Native.Nat.{_+_};
 ghost use Rattle.model.specs.Calls.Ask.{checkImage, operationSetOf, permissionSetOf, countLines};
 ghost use Rattle.model.specs.Questions.{ask, partStart, partBytes, EditorAnswer};
-use crate::editors::some_editor;
 use crate::list_rows::shown_rows;
 use acceptance::check;
 use codec::header::layout_of;
 use codec::widths::line_place;
-use decision::sets::operations;
-use decision::sets::permissions;
+use decision::operations;
+use decision::permissions;
+use editors::some_editor;
 use model::Answer;
 use model::Item;
 use model::Role;
@@ -19,7 +19,6 @@ use tables::items::is_list;
 use tables::items::item_used;
 use tables::subjects::subject_used;
 
-mod editors;
 mod list_rows;
 
 // Check an image.

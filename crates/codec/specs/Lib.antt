@@ -1,3 +1,2 @@
--- Laws in the form in which the code reads and writes rows. The definitions are those of `model` and `edits`.
+-- Laws in the form in which the code reads rows. The definitions are those of `model` and `edits`.
 pub mod RowLaws
-pub mod PutLaws

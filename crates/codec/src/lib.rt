@@ -1,6 +1,5 @@
-// The rows of an image's tables, read from its bytes and written to them. Every function answers every input: what lies past the end
-// reads as 0, and what would not fit is not written.
+// Where the tables and rows of an image lie, and the rows read from its bytes. Every function answers every input: what lies past the end
+// reads as 0.
 pub mod header;
 pub mod read_rows;
 pub mod widths;
-pub mod write_rows;

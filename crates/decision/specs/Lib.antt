@@ -1,3 +1,2 @@
 -- Laws in the form in which the code decides. The definitions are those of `model`.
-pub mod Searches
-pub mod Parts
+pub mod Grants

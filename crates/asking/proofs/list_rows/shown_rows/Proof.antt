@@ -19,8 +19,8 @@ is-list-requires c κs = search needs
 returns-2 : tie.Need-returns-2
 returns-2 c = search shown-no-list
 
-line-rank-requires : tie.Need-line-rank-requires
-line-rank-requires c κs = search needs
+run-start-requires : tie.Need-run-start-requires
+run-start-requires c κs = search needs
 
 run-end-requires : tie.Need-run-end-requires
 run-end-requires c κs = search needs
@@ -37,6 +37,6 @@ shown-rows-spec =
     layout-of-requires
     is-list-requires
     returns-2
-    line-rank-requires
+    run-start-requires
     run-end-requires
     returns-3)

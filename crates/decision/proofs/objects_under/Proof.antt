@@ -1,0 +1,22 @@
+-- `decision::objects_under` meets its contract: its definition, call by call.
+use borrow.Author.Needs.{needs}
+use Rattle.model.specs.Permission.{objectUnder}
+use Rattle.decision.proofs.objects_under.Statement.{statement}
+use Rattle.decision.proofs.objects_under.Tie as tie
+
+lines-part-requires : tie.Need-lines-part-requires
+lines-part-requires c κs = search needs
+
+lent-part-requires : tie.Need-lent-part-requires
+lent-part-requires c κs = search needs
+
+union-requires : tie.Need-union-requires
+union-requires c κs = search needs
+
+returns : tie.Need-returns
+unfolding objectUnder
+returns c = cc
+
+pub objects-under-spec : {M : Type 1} → statement M
+objects-under-spec =
+    tie.close (tie.spec lines-part-requires lent-part-requires union-requires returns)

@@ -1,0 +1,22 @@
+-- `decision::operations_under` meets its contract: its definition, call by call.
+use borrow.Author.Needs.{needs}
+use Rattle.model.specs.Permission.{operationUnder}
+use Rattle.decision.proofs.operations_under.Statement.{statement}
+use Rattle.decision.proofs.operations_under.Tie as tie
+
+privileges-of-requires : tie.Need-privileges-of-requires
+privileges-of-requires c κs = search needs
+
+lent-operations-requires : tie.Need-lent-operations-requires
+lent-operations-requires c κs = search needs
+
+union-requires : tie.Need-union-requires
+union-requires c κs = search needs
+
+returns : tie.Need-returns
+unfolding operationUnder
+returns c = cc
+
+pub operations-under-spec : {M : Type 1} → statement M
+operations-under-spec =
+    tie.close (tie.spec privileges-of-requires lent-operations-requires union-requires returns)

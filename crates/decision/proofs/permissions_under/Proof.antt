@@ -1,0 +1,23 @@
+-- `decision::permissions_under` meets its contract: its definition, call by call.
+use borrow.Author.Needs.{needs}
+use Rattle.model.specs.Permission.{permissionUnder}
+use Rattle.decision.proofs.permissions_under.Statement.{statement}
+use Rattle.decision.proofs.permissions_under.Tie as tie
+
+operations-under-requires : tie.Need-operations-under-requires
+operations-under-requires c κs = search needs
+
+objects-under-requires : tie.Need-objects-under-requires
+objects-under-requires c κs = search needs
+
+intersection-requires : tie.Need-intersection-requires
+intersection-requires c κs = search needs
+
+returns : tie.Need-returns
+unfolding permissionUnder
+returns c = cc
+
+pub permissions-under-spec : {M : Type 1} → statement M
+permissions-under-spec =
+    tie.close
+    (tie.spec operations-under-requires objects-under-requires intersection-requires returns)

@@ -1,0 +1,48 @@
+-- `parts::lines_part` meets its contract: the custodian, or the deciding line and the line for everyone.
+use borrow.Author.Needs.{needs}
+use Rattle.model.specs.Image.{tablesBy}
+use Rattle.parts.specs.Parts.{part-custodian, part-other}
+use Rattle.parts.proofs.lines_part.Statement.{statement}
+use Rattle.parts.proofs.lines_part.Tie as tie
+
+all-privileges-requires : tie.Need-all-privileges-requires
+all-privileges-requires c κs = search needs
+
+returns : tie.Need-returns
+returns c = search part-custodian
+
+item-at-requires : tie.Need-item-at-requires
+item-at-requires c κs = search needs
+
+deciding-line-requires : tie.Need-deciding-line-requires
+deciding-line-requires c κs = search needs
+
+line-of-requires : tie.Need-line-of-requires
+line-of-requires c κs = search needs
+
+line-set-requires : tie.Need-line-set-requires
+line-set-requires c κs = search needs
+
+line-set-requires-2 : tie.Need-line-set-requires-2
+line-set-requires-2 c κs = search needs
+
+union-requires : tie.Need-union-requires
+union-requires c κs = search needs
+
+returns-2 : tie.Need-returns-2
+unfolding tablesBy
+returns-2 c = search part-other
+
+pub lines-part-spec : {M : Type 1} → statement M
+lines-part-spec =
+    tie.close
+    (tie.spec
+    all-privileges-requires
+    returns
+    item-at-requires
+    deciding-line-requires
+    line-of-requires
+    line-set-requires
+    line-set-requires-2
+    union-requires
+    returns-2)
