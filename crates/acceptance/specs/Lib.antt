@@ -1,4 +1,2 @@
--- Laws in the form in which the code asks questions 1, 2 and 7, and of the seven answers as one number. The definitions are those of `model`.
-pub mod Zeros
-pub mod Layouts
+-- Laws of the seven answers as one number, in the form in which the code asks. The definitions are those of `model`.
 pub mod Seven

@@ -1,18 +1,15 @@
 // Questions 1 to 7: whether bytes are an image that the other calls may work on.
 ghost use mathlib.Core.Path.{_≡_};
 ghost use Rattle.model.specs.Questions.{check};
-use crate::layout_rules::layout_holds;
-use crate::layout_rules::length_fits;
-use crate::unused_rows::unused_is_zero;
 use codec::header::layout_of;
+use layouts::layout_rules::layout_holds;
+use layouts::layout_rules::length_fits;
+use layouts::unused_rows::unused_is_zero;
 use model::refusal;
 use rules::grants_hold;
 use rules::items_hold;
 use rules::lines_hold;
 use rules::subjects_hold;
-
-mod layout_rules;
-mod unused_rows;
 
 // The number of the first question that is answered no, or 0. Question 2 bounds the work of those after it by the image's length, whatever
 // the header claims.

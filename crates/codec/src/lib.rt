@@ -2,4 +2,3 @@
 // reads as 0.
 pub mod header;
 pub mod read_rows;
-pub mod widths;

@@ -2,12 +2,6 @@
 ghost use mathlib.Core.Path.{_≡_};
 ghost use lib.ListN.{getD};
 ghost use Rattle.model.specs.Image.{rowsIn, itemIn, widthOf, subjectFormat, noSubject, grantFormat, noGrant, lineFormat, noLine, itemFormat, noItem};
-use crate::widths::grant_place;
-use crate::widths::item_place;
-use crate::widths::line_place;
-use crate::widths::privileges_at;
-use crate::widths::privileges_size;
-use crate::widths::subject_place;
 use fields::field;
 use model::GrantRow;
 use model::Item;
@@ -17,6 +11,12 @@ use model::LineRow;
 use model::Role;
 use model::Subject;
 use model::SubjectRow;
+use widths::grant_place;
+use widths::item_place;
+use widths::line_place;
+use widths::privileges_at;
+use widths::privileges_size;
+use widths::subject_place;
 
 pub fn subject_at(bytes: &[u8], layout: Layout, n: u32) -> SubjectRow
     ensures { λ r. ⌜ r ≡ getD (rowsIn (subjectFormat (widthOf layout)) (layout .subjects) (now (bytes .entry))) n noSubject ⌝ }

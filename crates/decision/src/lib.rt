@@ -3,6 +3,7 @@
 ghost use mathlib.Core.Path.{_≡_};
 ghost use Rattle.model.specs.Image.{tablesBy};
 ghost use Rattle.model.specs.Permission.{foundGrant, grantOf, operationUnder, objectUnder, permissionUnder, operationSet, permissionSet};
+use keys::grants::find_grant;
 use model::Item;
 use model::Layout;
 use model::Privileges;
@@ -14,7 +15,6 @@ use model::union;
 use parts::lent_operations;
 use parts::lent_part;
 use parts::lines_part;
-use tables::grants::find_grant;
 use tables::subjects::privileges_of;
 
 // The grant of a claimed role. Role 0 means no role.

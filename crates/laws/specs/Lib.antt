@@ -17,3 +17,5 @@ pub mod There
 -- Last the calls: each keeps the tables well-formed, and from an accepted image leaves an accepted one.
 pub mod Kept
 pub mod Acts
+-- And the calls that ask, return by return, as code answers them.
+pub mod Asks

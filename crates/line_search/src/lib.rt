@@ -4,12 +4,12 @@ ghost use mathlib.Core.Path.{_≡_};
 ghost use Rattle.model.specs.Lists.{orElse};
 ghost use Rattle.model.specs.Image.{tablesBy, parentIn};
 ghost use Rattle.model.specs.Permission.{foundLine, lineIn, groupLine, directLine};
+use keys::lines::find_line;
 use model::Item;
 use model::Layout;
 use model::LineRow;
 use model::SoughtLine;
 use model::Subject;
-use tables::lines::find_line;
 use tables::subjects::parent_of;
 
 // The line of a list for a kind and a subject. No list means no lines.

@@ -7,11 +7,11 @@ ghost use Rattle.model.specs.Sorted.{place};
 ghost use Rattle.model.specs.Image.{tablesBy, lineKey};
 ghost use Rattle.listing.specs.Runs.{lowest, leading};
 use codec::read_rows::line_at;
+use keys::lines::line_rank;
 use model::Item;
 use model::Layout;
 use model::LineRow;
 use model::Subject;
-use tables::lines::line_rank;
 
 // The row that the list's rows begin at: the place of the lowest key.
 pub fn run_start(image: &[u8], layout: Layout, list: Item) -> u32

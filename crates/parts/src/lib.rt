@@ -3,7 +3,6 @@ ghost use mathlib.Core.Path.{_≡_};
 ghost use Rattle.model.specs.Image.{tablesBy};
 ghost use Rattle.model.specs.Permission.{foundLine, foundGrant, lineSet, linesPart, lentOperations, lentPart};
 use codec::read_rows::item_at;
-use codec::widths::all_privileges;
 use line_search::deciding_line;
 use line_search::line_of;
 use model::CUSTODIAN;
@@ -18,6 +17,7 @@ use model::intersection;
 use model::union;
 use tables::subjects::in_tree;
 use tables::subjects::privileges_of;
+use widths::all_privileges;
 
 // The privileges of a line that was found; without one, none.
 pub fn line_set(found: SoughtLine) -> Privileges

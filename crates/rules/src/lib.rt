@@ -10,7 +10,9 @@ use codec::read_rows::grant_at;
 use codec::read_rows::item_at;
 use codec::read_rows::line_at;
 use codec::read_rows::subject_at;
-use codec::widths::all_privileges;
+use keys::grants::grant_before;
+use keys::lines::kind_fits;
+use keys::lines::line_before;
 use model::GrantRow;
 use model::Item;
 use model::Layout;
@@ -19,14 +21,12 @@ use model::Role;
 use model::Subject;
 use model::SubjectRow;
 use model::is_within;
-use tables::grants::grant_before;
 use tables::items::is_list;
 use tables::items::none_or_list;
-use tables::lines::kind_fits;
-use tables::lines::line_before;
 use tables::subjects::in_tree;
 use tables::subjects::privileges_of;
 use tables::subjects::subject_used;
+use widths::all_privileges;
 
 pub fn subjects_hold(image: &[u8], layout: Layout) -> bool
     ensures { λ r. ⌜ r ≡ subjectsHold (tablesBy layout (now (image .entry))) ⌝ }

@@ -1,5 +1,3 @@
 -- Laws in the form in which the code asks the tables. The definitions are those of `model`.
-pub mod Keys
-pub mod Ranks
 pub mod Rows
 pub mod Climbs

@@ -2,12 +2,6 @@
 ghost use mathlib.Core.Path.{_≡_};
 ghost use Rattle.model.specs.Image.{rowInBytes, widthOf, subjectFormat, grantFormat, lineFormat, itemFormat};
 ghost use Rattle.edits.specs.Edits.{putBytes};
-use codec::widths::grant_size;
-use codec::widths::item_size;
-use codec::widths::line_size;
-use codec::widths::privileges_size;
-use codec::widths::put_privileges;
-use codec::widths::subject_size;
 use edits::places;
 use fields::put_field;
 use model::GrantRow;
@@ -15,6 +9,12 @@ use model::ItemRow;
 use model::Layout;
 use model::LineRow;
 use model::SubjectRow;
+use widths::grant_size;
+use widths::item_size;
+use widths::line_size;
+use widths::privileges_size;
+use widths::put_privileges;
+use widths::subject_size;
 
 pub fn put_subject(bytes: &mut [u8], layout: Layout, at: usize, row: SubjectRow)
     ensures { λ _. ⌜ now (bytes .exit) ≡ putBytes (now (bytes .entry)) at (rowInBytes (subjectFormat (widthOf layout)) row) ⌝ }

@@ -1,0 +1,39 @@
+// The calls that ask for the lines of a list.
+ghost use mathlib.Core.Path.{_≡_};
+ghost use Prim.Native.Nat.{_+_};
+ghost use Rattle.model.specs.Calls.Ask.{countLines};
+ghost use Rattle.model.specs.Questions.{ask, partStart, partBytes};
+use crate::list_rows::shown_rows;
+use codec::header::layout_of;
+use model::Answer;
+use model::Item;
+use widths::line_place;
+
+mod list_rows;
+
+// Lines of a list, the refusal number and the row count.
+pub fn count_lines(image: &[u8], list: Item) -> Answer
+    ensures { λ r. ⌜ r ≡ ask (now (image .entry)) (countLines (list .0)) ⌝ }
+{
+    let rows = shown_rows(image, list);
+    if rows.number != 0 {
+        return Answer::refused(rows.number);
+    }
+    Answer::done(rows.end - rows.first)
+}
+
+// Lines of a list, the rows: the very part of the lent image that holds them. Refused, or without rows, it is the empty part at byte 0.
+pub fn lines_of<'a>(image: &'a [u8], list: Item) -> &'a [u8]
+    ensures { λ r. ⌜ now r ≡ partBytes (now (image .entry)) (list .0) ⌝ }
+    ensures { λ r. ⌜ r .ptr .0 ≡ image .entry .ptr .0 ⌝ }
+    ensures { λ r. ⌜ r .ptr .1 ≡ partStart (now (image .entry)) (list .0) + image .entry .ptr .1 ⌝ }
+{
+    let rows = shown_rows(image, list);
+    if rows.end <= rows.first {
+        return &image[..0];
+    }
+    let layout = layout_of(image);
+    let start = line_place(layout, rows.first);
+    let end = line_place(layout, rows.end);
+    &image[start..end]
+}

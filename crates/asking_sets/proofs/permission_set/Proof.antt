@@ -1,0 +1,68 @@
+-- `asking_sets::permission_set` meets its contract: one question after the other, and then the set.
+use borrow.Author.Needs.{needs}
+use Rattle.model.specs.Questions.{askQuestions}
+use Rattle.model.specs.Calls.{told}
+use Rattle.laws.specs.Answers.{asked-no, asked-yes, asked-all}
+use Rattle.laws.specs.Asks.{ask-image, ask-no, ask-done}
+use Rattle.asking_sets.proofs.permission_set.Statement.{statement}
+use Rattle.asking_sets.proofs.permission_set.Tie as tie
+
+check-requires : tie.Need-check-requires
+check-requires c κs = search needs
+
+refused-requires : tie.Need-refused-requires
+refused-requires c κs = search needs
+
+returns : tie.Need-returns
+returns c = search ask-image
+
+layout-of-requires : tie.Need-layout-of-requires
+layout-of-requires c κs = search needs
+
+subject-used-requires : tie.Need-subject-used-requires
+subject-used-requires c κs = search needs
+
+refused-requires-2 : tie.Need-refused-requires-2
+refused-requires-2 c κs = search needs
+
+returns-2 : tie.Need-returns-2
+unfolding askQuestions
+returns-2 c = search (ask-no, asked-no)
+
+item-used-requires : tie.Need-item-used-requires
+item-used-requires c κs = search needs
+
+refused-requires-3 : tie.Need-refused-requires-3
+refused-requires-3 c κs = search needs
+
+returns-3 : tie.Need-returns-3
+unfolding askQuestions
+returns-3 c = search (ask-no, asked-yes, asked-no)
+
+permissions-requires : tie.Need-permissions-requires
+permissions-requires c κs = search needs
+
+done-requires : tie.Need-done-requires
+done-requires c κs = search needs
+
+returns-4 : tie.Need-returns-4
+unfolding askQuestions told
+returns-4 c = search (ask-done, asked-yes, asked-all)
+
+pub permission-set-spec : {M : Type 1} → statement M
+permission-set-spec =
+    tie.close
+    (tie.spec
+    check-requires
+    refused-requires
+    returns
+    layout-of-requires
+    subject-used-requires
+    refused-requires-2
+    returns-2
+    item-used-requires
+    refused-requires-3
+    returns-3
+    permissions-requires
+    done-requires
+    returns-4)

@@ -1,0 +1,66 @@
+// Questions 1 and 2: the length, and where the tables lie.
+ghost use mathlib.Core.Bool.{_&&_};
+ghost use mathlib.Core.List.{[], _∷_};
+ghost use mathlib.Core.Path.{_≡_};
+ghost use Prim.Native.Nat.{_-_, _/_, _%_, _<_};
+ghost use lib.Dec.{eqb, leb};
+ghost use lib.ListN.{length};
+ghost use Rattle.model.specs.Lists.{allOf};
+ghost use Rattle.model.specs.Image.{layoutRules};
+use model::Layout;
+use model::Table;
+use widths::grant_size;
+use widths::item_size;
+use widths::line_size;
+use widths::subject_size;
+
+pub fn length_fits(image: &[u8]) -> bool
+    ensures { λ r. ⌜ r ≡ (leb 36 (length (now (image .entry))) && leb (length (now (image .entry))) 65536) ⌝ }
+{
+    if image.len() < Layout::SHORTEST {
+        return false;
+    }
+    image.len() <= Layout::LONGEST
+}
+
+pub fn layout_holds(image: &[u8], layout: Layout) -> bool
+    ensures { λ r. ⌜ r ≡ allOf (layoutRules layout (now (image .entry))) ⌝ }
+{
+    let items = layout.items;
+    if items.end as usize != image.len() {
+        return false;
+    }
+    let subjects = layout.subjects;
+    if subjects.start as usize != Layout::HEADER {
+        return false;
+    }
+    if !lies(subjects, subject_size(layout)) {
+        return false;
+    }
+    if !lies(layout.grants, grant_size(layout)) {
+        return false;
+    }
+    if !lies(layout.lines, line_size(layout)) {
+        return false;
+    }
+    if !lies(items, item_size(layout)) {
+        return false;
+    }
+    1 <= subjects.used
+}
+
+// A table does not end before it starts, is whole rows, and has room for those in use. The rows in use are compared with the capacity: a
+// product with a count out of the header could be too large.
+fn lies(table: Table, size: usize) -> bool
+    requires { ⌜ 0 < size ⌝ }
+    ensures { λ r. ⌜ r ≡ allOf (leb (table .start) (table .end) ∷ eqb ((table .end - table .start) % size) 0 ∷ leb (table .used) ((table .end - table .start) / size) ∷ []) ⌝ }
+{
+    if table.end < table.start {
+        return false;
+    }
+    let extent = (table.end - table.start) as usize;
+    if extent % size != 0 {
+        return false;
+    }
+    table.used as usize <= extent / size
+}
