@@ -167,29 +167,27 @@ module _ (img : List ℕ) (a number first end : ℕ) (shown : Shown img a number
         let rows : length (rowsOf a (tables img .lines)) ≡ end - first = omega (arith, shown .counts passed) in
         rw (visible, rows)
 
-    -- s and e are the places of the first row and of the end, by a layout
-    module _ (lay : Layout) (there : lay ≡ layoutOf img) (s e : ℕ)
-        (from : s ≡ lay .lines .start + first * size (lineFormat (widthOf lay)))
-        (to : e ≡ lay .lines .start + end * size (lineFormat (widthOf lay))) where
-      from-is : s ≡ layoutOf img .lines .start + first * lineSize img
-      from-is = from ∙ ap (λ (l : Layout). l .lines .start + first * size (lineFormat (widthOf l))) there
-
+    -- e is the place of the end and s that of the first row, by a layout
+    module _ (lay : Layout) (there : lay ≡ layoutOf img) (e : ℕ) (to : e ≡ lay .lines .start + end * size (lineFormat (widthOf lay))) where
       to-is : e ≡ layoutOf img .lines .start + end * lineSize img
       to-is = to ∙ ap (λ (l : Layout). l .lines .start + end * size (lineFormat (widthOf l))) there
 
       pub some-inside : e ≤ length img
       some-inside = omega (arith, to-is, shown .inside passed)
 
-      pub some-at : (p : ℕ) → s + p ≡ partStart img a + p
-      some-at p = ap (λ (k : ℕ). k + p) (from-is ∙ sym some-start)
+      module _ (s : ℕ) (from : s ≡ lay .lines .start + first * size (lineFormat (widthOf lay))) where
+        from-is : s ≡ layoutOf img .lines .start + first * lineSize img
+        from-is = from ∙ ap (λ (l : Layout). l .lines .start + first * size (lineFormat (widthOf l))) there
 
-      pub some-bytes : take (e - s) (drop s img) ≡ partBytes img a
-      some-bytes =
-          let count : ℕ = end - first in
-          let split : end * lineSize img ≡ first * lineSize img + (end - first) * lineSize img =
-          ap (λ (k : ℕ). k * lineSize img) (sum first end (omega arith)) ∙ add-mul first (end - first) (lineSize img) in
-          let long : e - s ≡ (end - first) * lineSize img = omega (arith, from-is, to-is, split) in
-          rw (some-start, some-length, ← from-is, long)
-        where
-          sum : (x y : ℕ) → x ≤ y → y ≡ x + (y - x)
-          sum x y h = omega arith
+        pub some-at : (p : ℕ) → s + p ≡ partStart img a + p
+        some-at p = ap (λ (k : ℕ). k + p) (from-is ∙ sym some-start)
+
+        pub some-bytes : take (e - s) (drop s img) ≡ partBytes img a
+        some-bytes =
+            let split : end * lineSize img ≡ first * lineSize img + (end - first) * lineSize img =
+            ap (λ (k : ℕ). k * lineSize img) (sum first end (omega arith)) ∙ add-mul first (end - first) (lineSize img) in
+            let long : e - s ≡ (end - first) * lineSize img = omega (arith, from-is, to-is, split) in
+            rw (some-start, some-length, ← from-is, long)
+          where
+            sum : (x y : ℕ) → x ≤ y → y ≡ x + (y - x)
+            sum x y h = omega arith

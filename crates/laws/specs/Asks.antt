@@ -43,10 +43,10 @@ module _ (img : List ℕ) (n : ℕ) (checked : n ≡ check img) (q : Ask) (a : A
     ask-done v h f e = e ∙ sym (own ∙ rw (← h, ← f))
 
 -- the check asks nothing more than the questions of the image
-pub check-is-asked : (img : List ℕ) (n : ℕ) (a : Answer) → n ≡ check img → a ≡ answer n 0 → a ≡ ask img checkImage
+pub check-is-asked : (img : List ℕ) (n : ℕ) → n ≡ check img → answer n 0 ≡ ask img checkImage
 unfolding askQuestions told
-check-is-asked img n a checked e =
+check-is-asked img n checked =
     elim (eq-or-ne n 0) [
-      | inl z ↦ ask-done img n checked checkImage a z (layoutOf img) refl 0 asked-all refl (e ∙ ap (λ (k : ℕ). answer k 0) z)
-      | inr h ↦ ask-image img n checked checkImage a h e
+      | inl z ↦ ask-done img n checked checkImage (answer n 0) z (layoutOf img) refl 0 asked-all refl (ap (λ (k : ℕ). answer k 0) z)
+      | inr h ↦ ask-image img n checked checkImage (answer n 0) h refl
     ]

@@ -2,6 +2,7 @@
 use borrow.Author.Needs.{needs}
 use mathlib.Core.Path.{refl}
 use Rattle.asking_lines.specs.Shown.{none-bytes, none-at, some-inside, some-at, some-bytes}
+use native.Mathlib.Omega.{arith}
 use Rattle.asking_lines.proofs.lines_of.Statement.{statement}
 use Rattle.asking_lines.proofs.lines_of.Tie as tie
 
@@ -12,7 +13,7 @@ slice-aggregate-result : tie.Need-slice-aggregate-result
 slice-aggregate-result c = search needs
 
 returns : tie.Need-returns
-returns c = (search none-bytes, (refl, search none-at))
+returns c = let shown = c .before .before .before .shown-rows .ensures in (none-bytes _ _ _ _ _ shown (omega arith), (refl, none-at _ _ _ _ _ shown (omega arith) _))
 
 layout-of-requires : tie.Need-layout-of-requires
 layout-of-requires c κs = search needs

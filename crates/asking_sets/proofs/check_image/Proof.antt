@@ -7,11 +7,8 @@ use Rattle.asking_sets.proofs.check_image.Tie as tie
 check-requires : tie.Need-check-requires
 check-requires c κs = search needs
 
-refused-requires : tie.Need-refused-requires
-refused-requires c κs = search needs
-
 returns : tie.Need-returns
 returns c = search check-is-asked
 
 pub check-image-spec : {M : Type 1} → statement M
-check-image-spec = tie.close (tie.spec check-requires refused-requires returns)
+check-image-spec = tie.close (tie.spec check-requires returns)

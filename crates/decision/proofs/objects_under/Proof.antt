@@ -1,6 +1,6 @@
 -- `decision::objects_under` meets its contract: its definition, call by call.
 use borrow.Author.Needs.{needs}
-use Rattle.model.specs.Permission.{objectUnder}
+use Rattle.decision.specs.Sets.{objects-joined}
 use Rattle.decision.proofs.objects_under.Statement.{statement}
 use Rattle.decision.proofs.objects_under.Tie as tie
 
@@ -14,8 +14,7 @@ union-requires : tie.Need-union-requires
 union-requires c κs = search needs
 
 returns : tie.Need-returns
-unfolding objectUnder
-returns c = cc
+returns c = search objects-joined
 
 pub objects-under-spec : {M : Type 1} → statement M
 objects-under-spec =

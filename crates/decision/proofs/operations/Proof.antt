@@ -1,5 +1,6 @@
 -- `decision::operations` meets its contract: its definition, call by call.
 use borrow.Author.Needs.{needs}
+use Rattle.decision.specs.Sets.{operations-claimed}
 use Rattle.decision.proofs.operations.Statement.{statement}
 use Rattle.decision.proofs.operations.Tie as tie
 
@@ -10,7 +11,7 @@ operations-under-requires : tie.Need-operations-under-requires
 operations-under-requires c κs = search needs
 
 returns : tie.Need-returns
-returns c = cc
+returns c = search operations-claimed
 
 pub operations-spec : {M : Type 1} → statement M
 operations-spec = tie.close (tie.spec grant-of-requires operations-under-requires returns)

@@ -1,6 +1,6 @@
 -- `decision::operations_under` meets its contract: its definition, call by call.
 use borrow.Author.Needs.{needs}
-use Rattle.model.specs.Permission.{operationUnder}
+use Rattle.decision.specs.Sets.{operations-joined}
 use Rattle.decision.proofs.operations_under.Statement.{statement}
 use Rattle.decision.proofs.operations_under.Tie as tie
 
@@ -14,8 +14,7 @@ union-requires : tie.Need-union-requires
 union-requires c κs = search needs
 
 returns : tie.Need-returns
-unfolding operationUnder
-returns c = cc
+returns c = search operations-joined
 
 pub operations-under-spec : {M : Type 1} → statement M
 operations-under-spec =

@@ -1,5 +1,6 @@
 -- `decision::permissions` meets its contract: its definition, call by call.
 use borrow.Author.Needs.{needs}
+use Rattle.decision.specs.Sets.{permissions-claimed}
 use Rattle.decision.proofs.permissions.Statement.{statement}
 use Rattle.decision.proofs.permissions.Tie as tie
 
@@ -10,7 +11,7 @@ permissions-under-requires : tie.Need-permissions-under-requires
 permissions-under-requires c κs = search needs
 
 returns : tie.Need-returns
-returns c = cc
+returns c = search permissions-claimed
 
 pub permissions-spec : {M : Type 1} → statement M
 permissions-spec = tie.close (tie.spec grant-of-requires permissions-under-requires returns)

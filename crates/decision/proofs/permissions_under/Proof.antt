@@ -1,6 +1,6 @@
 -- `decision::permissions_under` meets its contract: its definition, call by call.
 use borrow.Author.Needs.{needs}
-use Rattle.model.specs.Permission.{permissionUnder}
+use Rattle.decision.specs.Sets.{permissions-cut}
 use Rattle.decision.proofs.permissions_under.Statement.{statement}
 use Rattle.decision.proofs.permissions_under.Tie as tie
 
@@ -14,8 +14,7 @@ intersection-requires : tie.Need-intersection-requires
 intersection-requires c κs = search needs
 
 returns : tie.Need-returns
-unfolding permissionUnder
-returns c = cc
+returns c = search permissions-cut
 
 pub permissions-under-spec : {M : Type 1} → statement M
 permissions-under-spec =
