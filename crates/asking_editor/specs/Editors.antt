@@ -3,22 +3,18 @@ use mathlib.Core.Bool.{Bool, true, false, not, false≢true}
 use mathlib.Core.List.{List, [], _++_}
 use mathlib.Core.Logic.{inl, inr}
 use mathlib.Core.Path.{_≡_, refl, sym, ap, _∙_}
-use Prim.Native.Nat.{ℕ, suc, _+_, _<_, _≤_}
+use Prim.Native.Nat.{ℕ, _<_}
 use native.Mathlib.Omega.{arith}
-use borrow.Author.Tests.{ltb-true, lt-ltb, le-ltb, ne-eqb, eq-eqb}
-use lib.Dec.{T, eqb, ltb}
+use lib.Dec.{T}
 use lib.ListN.{length}
 use Rattle.model.specs.declared.Answer.{Answer}
 use Rattle.model.specs.declared.Layout.{Layout}
 use Rattle.model.specs.declared.SubjectRow.{SubjectRow}
 use Rattle.model.specs.Lists.{everyNumbered, someNumbered}
-use Rattle.model.specs.WhoAndWhat.{editList, has}
-use Rattle.model.specs.Image.{Tables, widthOf, subjectFormat, layoutOf, tablesBy, tables, isList, subjectUsed, noSubject}
-use Rattle.model.specs.Permission.{permissionSet}
+use Rattle.model.specs.Image.{Tables, layoutOf, tablesBy, tables, isList, noSubject}
 use Rattle.model.specs.Calls.{isEditor}
 use Rattle.model.specs.Questions.{firstNo, imageQuestions, editorQuestions, answer, check, EditorAnswer}
-use Rattle.laws.specs.Tests.{two, le-or-lt, lt-eq-gt, true-T, T-true, every-at, every-by}
-use Rattle.laws.specs.Rows.{rows-count}
+use Rattle.laws.specs.Tests.{le-or-lt, true-T, T-true, every-at, every-by}
 use Rattle.laws.specs.Answers.{asked-no, asked-yes, asked-all}
 use Rattle.editors.specs.Editors.{Editor, not-used}
 use Rattle.laws.specs.Asks.{number-image, number-own}

@@ -1,6 +1,6 @@
 -- Lines of a list: the rows that are shown, their count, and the bytes of the image that they are.
 use mathlib.Core.Bool.{Bool, true, false, not, _&&_, and-false}
-use mathlib.Core.List.{List, [], _∷_}
+use mathlib.Core.List.{List, []}
 use mathlib.Core.Path.{_≡_, refl, sym, ap, _∙_}
 use Prim.Native.Nat.{ℕ, zero, suc, _+_, _-_, _*_, _<_, _≤_}
 use native.Mathlib.Nat.{zero-add, mul-le-mul-right, add-mul}
@@ -10,10 +10,9 @@ use lib.Dec.{T, eqb}
 use lib.ListN.{length, take, drop, length-drop}
 use Rattle.model.specs.declared.Answer.{Answer}
 use Rattle.model.specs.declared.Layout.{Layout}
-use Rattle.model.specs.declared.LineRow.{LineRow}
 use Rattle.model.specs.Lists.{every}
 use Rattle.model.specs.Sorted.{place, ascending}
-use Rattle.model.specs.Image.{layoutOf, tablesBy, tables, rowsIn, size, lineFormat, widthOf, isList, lineKey, lineRules, linesHold}
+use Rattle.model.specs.Image.{layoutOf, tablesBy, tables, size, lineFormat, widthOf, isList, lineKey, lineRules, linesHold}
 use Rattle.model.specs.Calls.{rowsOf, rowsBefore, told}
 use Rattle.model.specs.Calls.Ask.{countLines}
 use Rattle.model.specs.Questions.{answer, check, ask, askQuestions, imageQuestions, shows, partStart, partLength, partBytes}

@@ -1,21 +1,21 @@
 -- The rows of one list stand together, for lines ascend by their lists first: they begin at the place of the list's lowest key and go on as long as
 -- rows name the list.
-use mathlib.Core.Bool.{Bool, true, false, _&&_, _||_, cond, or-false, and-false}
+use mathlib.Core.Bool.{Bool, true, false, _&&_, cond, or-false, and-false}
 use mathlib.Core.List.{List, [], _∷_}
 use mathlib.Core.Logic.{inl, inr}
 use mathlib.Core.Path.{_≡_, refl, sym, ap, _∙_}
-use Prim.Native.Nat.{ℕ, zero, suc, _+_, _<_, _≤_}
+use Prim.Native.Nat.{ℕ, suc, _+_, _<_, _≤_}
 use native.Mathlib.Omega.{arith}
-use borrow.Author.Tests.{ltb-true, ltb-false, lt-ltb, le-ltb, eq-eqb, ne-eqb}
+use borrow.Author.Tests.{ltb-true, ltb-false, le-ltb, eq-eqb, ne-eqb}
 use lib.Dec.{T, eqb, ltb, eqb→eq, leb→le}
 use lib.ListN.{length, getD, drop, drop-of-length-le}
 use Rattle.model.specs.declared.Table.{Table}
 use Rattle.model.specs.declared.LineRow.{LineRow}
 use Rattle.model.specs.Lists.{select}
 use Rattle.model.specs.Sorted.{before, place, ascending}
-use Rattle.model.specs.Image.{Format, rowsIn, lineFormat, noLine, lineKey}
+use Rattle.model.specs.Image.{Format, rowsIn, noLine, lineKey}
 use Rattle.model.specs.Calls.{rowsOf, rowsBefore}
-use Rattle.laws.specs.Tests.{two, or-cases, and-l, and-r, true-T, eq-or-ne}
+use Rattle.laws.specs.Tests.{two, or-cases, and-l, and-r, eq-or-ne}
 use Rattle.laws.specs.Sorted.{ascending-tail, place-counts}
 use Rattle.laws.specs.Rows.{rows-count, rows-next}
 

@@ -1,7 +1,7 @@
 -- `asking_lines::count_lines` meets its contract: the number, and as many as there are rows shown.
 use borrow.Author.Needs.{needs}
 use native.Mathlib.Omega.{arith}
-use Rattle.asking_lines.specs.Shown.{Shown, count-refused, count-done}
+use Rattle.asking_lines.specs.Shown.{count-refused, count-done}
 use Rattle.asking_lines.proofs.count_lines.Statement.{statement}
 use Rattle.asking_lines.proofs.count_lines.Tie as tie
 
