@@ -1,6 +1,7 @@
 -- `acceptance::check` meets its contract: one question after the other.
 use borrow.Author.Needs.{needs}
-use Rattle.acceptance.specs.Seven.{answers-0, answers-1, answers-2, answers-3, answers-4, answers-5, answers-6, answers-7}
+use Rattle.laws.specs.Answers.{asked-no, asked-yes, asked-all}
+use Rattle.acceptance.specs.Seven.{refused-length, answered-by}
 use Rattle.acceptance.proofs.check.Statement.{statement}
 use Rattle.acceptance.proofs.check.Tie as tie
 
@@ -8,7 +9,7 @@ length-fits-requires : tie.Need-length-fits-requires
 length-fits-requires c κs = search needs
 
 returns : tie.Need-returns
-returns c = search answers-1
+returns c = search refused-length
 
 layout-of-requires : tie.Need-layout-of-requires
 layout-of-requires c κs = search needs
@@ -17,40 +18,40 @@ layout-holds-requires : tie.Need-layout-holds-requires
 layout-holds-requires c κs = search needs
 
 returns-2 : tie.Need-returns-2
-returns-2 c = search answers-2
+returns-2 c = search (answered-by, asked-yes, asked-no) depth 4
 
 subjects-hold-requires : tie.Need-subjects-hold-requires
 subjects-hold-requires c κs = search needs
 
 returns-3 : tie.Need-returns-3
-returns-3 c = search answers-3
+returns-3 c = search (answered-by, asked-yes, asked-no) depth 5
 
 items-hold-requires : tie.Need-items-hold-requires
 items-hold-requires c κs = search needs
 
 returns-4 : tie.Need-returns-4
-returns-4 c = search answers-4
+returns-4 c = search (answered-by, asked-yes, asked-no) depth 6
 
 lines-hold-requires : tie.Need-lines-hold-requires
 lines-hold-requires c κs = search needs
 
 returns-5 : tie.Need-returns-5
-returns-5 c = search answers-5
+returns-5 c = search (answered-by, asked-yes, asked-no) depth 7
 
 grants-hold-requires : tie.Need-grants-hold-requires
 grants-hold-requires c κs = search needs
 
 returns-6 : tie.Need-returns-6
-returns-6 c = search answers-6
+returns-6 c = search (answered-by, asked-yes, asked-no) depth 8
 
 unused-is-zero-requires : tie.Need-unused-is-zero-requires
 unused-is-zero-requires c κs = search needs
 
 returns-7 : tie.Need-returns-7
-returns-7 c = search answers-7
+returns-7 c = search (answered-by, asked-yes, asked-no) depth 9
 
 returns-8 : tie.Need-returns-8
-returns-8 c = search answers-0
+returns-8 c = search (answered-by, asked-yes, asked-all) depth 10
 
 pub check-spec : {M : Type 1} → statement M
 check-spec =
