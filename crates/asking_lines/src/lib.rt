@@ -23,6 +23,7 @@ pub fn count_lines(image: &[u8], list: Item) -> Answer
 }
 
 // Lines of a list, the rows: the very part of the lent image that holds them. Refused, or without rows, it is the empty part at byte 0.
+// A reference's `ptr` is the block of memory that it points into and the byte in it: the part's block is the image's, and its byte the image's plus `partStart`.
 pub fn lines_of<'a>(image: &'a [u8], list: Item) -> &'a [u8]
     ensures { λ r. ⌜ now r ≡ partBytes (now (image .entry)) (list .0) ⌝ }
     ensures { λ r. ⌜ r .ptr .0 ≡ image .entry .ptr .0 ⌝ }
