@@ -13,7 +13,7 @@ use model::Subject;
 use model::has;
 use model::needed_position;
 
-// The number of a subject other than the custodian that may edit the list; 0, the custodian's, where there is none.
+// The number of a subject other than the custodian that may edit the list; 0, the custodian's, where there is none. Which of several is undecided.
 pub fn some_editor(image: &[u8], layout: Layout, list: Item) -> u32
     ensures { λ r. ⌜ Editor (tablesBy layout (now (image .entry))) (list .0) r ⌝ }
 {
