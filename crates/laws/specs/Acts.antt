@@ -1,19 +1,27 @@
 -- What a call that writes leaves: refused, the bytes at entry; done, the bytes of the tables that its rule gives. From an accepted image both are accepted.
 use mathlib.Core.Bool.{Bool, true, false}
-use mathlib.Core.List.{List, _++_}
+use mathlib.Core.List.{List, [], _∷_, _++_}
 use mathlib.Core.Logic.{_≢_}
-use mathlib.Core.Path.{_≡_, refl}
-use Prim.Native.Nat.{ℕ}
+use mathlib.Core.Path.{_≡_, refl, sym, ap, _∙_}
+use Prim.Native.Nat.{ℕ, suc, _<_}
+use native.Mathlib.Omega.{arith}
+use mir.Syntax.{w8}
+use mir.Val.{Fits}
 use borrow.Author.Tests.{eqb-true, eqb-false, ne-eqb}
 use lib.Dec.{T, eqb}
-use Rattle.model.specs.Image.{tables, encode}
-use Rattle.model.specs.Calls.{Change, after}
+use lib.ListN.{getD}
+use Rattle.model.specs.declared.Answer.{Answer}
+use Rattle.model.specs.declared.Layout.{Layout}
+use Rattle.model.specs.Lists.{Bytes}
+use Rattle.model.specs.Image.{layoutOf, tablesBy, tables, encode}
+use Rattle.model.specs.Calls.{Change, after, made}
 use Rattle.model.specs.Calls.Change.{defineSubject, setGrant, removeGrant, setLine, removeLine, createItem, bind, handOver}
-use Rattle.model.specs.Questions.{imageQuestions, questions, firstNo, act}
+use Rattle.model.specs.Questions.{imageQuestions, questions, firstNo, answer, answered, check, act}
 use Rattle.model.specs.Sequences.{Accepted, Handed}
-use Rattle.laws.specs.Tests.{All-right}
+use Rattle.laws.specs.Tests.{All-left, All-right}
 use Rattle.laws.specs.WellFormed.{WellFormed, Passed}
-use Rattle.laws.specs.Answers.{numbered, passed-first}
+use Rattle.laws.specs.Answers.{numbered, first-passed, passed-first}
+use Rattle.laws.specs.Asks.{answers-image, answers-own}
 use Rattle.laws.specs.Kept.{well-formed-after}
 use Rattle.laws.specs.Back.{tables-well-formed}
 use Rattle.laws.specs.There.{tables-there, encode-accepted}
@@ -45,11 +53,17 @@ all-numbered img (bind c i a) = tt
 all-numbered img (handOver c i o) = tt
 
 -- a call that is done has had every question answered yes
-pub done-passed : (img : List ℕ) (c : Change) → act img c .answer .number ≡ 0 → Passed (questions (tables img) c)
-unfolding act
-done-passed img c done =
-    All-right (λ q. T (q .answer)) (imageQuestions img) (questions (tables img) c)
-    (passed-first (imageQuestions img ++ questions (tables img) c) (all-numbered img c) done)
+module _ (img : List ℕ) (c : Change) (done : act img c .answer .number ≡ 0) where
+  every-passed : Passed (imageQuestions img ++ questions (tables img) c)
+  unfolding act
+  every-passed = passed-first (imageQuestions img ++ questions (tables img) c) (all-numbered img c) done
+
+  pub done-passed : Passed (questions (tables img) c)
+  done-passed = All-right (λ q. T (q .answer)) (imageQuestions img) (questions (tables img) c) every-passed
+
+  pub done-checked : check img ≡ 0
+  unfolding check
+  done-checked = first-passed (imageQuestions img) (All-left (λ q. T (q .answer)) (imageQuestions img) (questions (tables img) c) every-passed)
 
 module _ (img : List ℕ) (c : Change) (handed : Handed c) (accepted : Accepted img) where
   pub done-well-formed : act img c .answer .number ≡ 0 → WellFormed (after (tables img) c)
@@ -68,3 +82,58 @@ module _ (img : List ℕ) (c : Change) (handed : Handed c) (accepted : Accepted 
           let done : act img c .answer .number ≡ 0 = eqb-true (act img c .answer .number) 0 e in
           rw (done-leaves img c done) (encode-accepted (after (tables img) c) (done-well-formed done))
       go false e = rw (refused-keeps img c (eqb-false (act img c .answer .number) 0 e)) accepted
+
+-- A call that writes, return by return, as code comes to them. First the answer a: refused by the image, by one of the call's own questions, or done. n is
+-- what the check said, k what the call's questions said.
+
+module _ (img : List ℕ) (n : ℕ) (checked : n ≡ check img) (c : Change) (a : Answer) where
+  pub act-image : a ≡ answer n 0 → (n ≡ 0 → ⊥) → a ≡ act img c .answer
+  unfolding act
+  act-image e bad = e ∙ answers-image img n checked (λ t. questions t c) (λ t. made t c) bad
+
+  module _ (ok : n ≡ 0) (lay : Layout) (there : lay ≡ layoutOf img) where
+    own : act img c .answer ≡ answered (firstNo (questions (tablesBy lay img) c)) (made (tablesBy lay img) c)
+    unfolding act
+    own = answers-own img n checked (λ t. questions t c) (λ t. made t c) ok lay there
+
+    module _ (k : ℕ) (asked : k ≡ firstNo (questions (tablesBy lay img) c)) where
+      pub act-no : a ≡ answer k 0 → (k ≡ 0 → ⊥) → a ≡ act img c .answer
+      act-no e bad = e ∙ sym (own ∙ rw (← asked, ne-eqb k 0 bad))
+
+      pub act-done : (v : ℕ) → a ≡ answer 0 v → k ≡ 0 → v ≡ made (tablesBy lay img) c → a ≡ act img c .answer
+      act-done v e done made-is = e ∙ sym (own ∙ rw (← asked, done, ← made-is))
+
+-- Then the image, by the answer. Both are what a call promises.
+
+pub also : (img : List ℕ) (c : Change) (a : Answer) (new : List ℕ)
+    → a ≡ act img c .answer
+    → (a ≡ act img c .answer → new ≡ act img c .image)
+    → (a ≡ act img c .answer) × (new ≡ act img c .image)
+also img c a new e f = (e, f e)
+
+module _ (img : List ℕ) (c : Change) (a : Answer) (answered-so : a ≡ act img c .answer) where
+  pub kept : (k : ℕ) → a ≡ answer k 0 → (k ≡ 0 → ⊥) → img ≡ act img c .image
+  kept k e bad =
+      let number : act img c .answer .number ≡ k = ap (λ (x : Answer). x .number) (sym answered-so ∙ e) in
+      sym (refused-keeps img c (λ z. bad (sym number ∙ z)))
+
+  module _ (v : ℕ) (e : a ≡ answer 0 v) where
+    number-done : act img c .answer .number ≡ 0
+    number-done = ap (λ (x : Answer). x .number) (sym answered-so ∙ e)
+
+    pub was-passed : Passed (questions (tables img) c)
+    was-passed = done-passed img c number-done
+
+    pub was-accepted : Bytes img → Accepted img
+    was-accepted bytes = record { bytes = bytes; checked = done-checked img c number-done }
+
+    pub leaves : (new : List ℕ) → new ≡ encode (after (tables img) c) → new ≡ act img c .image
+    leaves new left = left ∙ sym (done-leaves img c number-done)
+
+-- The bytes of a slice, as code knows them.
+pub slice-bytes : (s : List ℕ) → ((i : ℕ) → Fits w8 (getD s i 0)) → Bytes s
+slice-bytes [] h = tt
+slice-bytes (x ∷ s) h = (byte x (h 0), slice-bytes s (λ i. h (suc i)))
+  where
+    byte : (x : ℕ) → Fits w8 x → x < 256
+    byte x f = omega (arith, f)

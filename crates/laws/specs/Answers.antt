@@ -2,9 +2,9 @@
 use mathlib.Core.Bool.{Bool, true, false, _&&_, not, cond}
 use mathlib.Core.List.{List, [], _∷_, _++_}
 use mathlib.Core.Logic.{inl, inr}
-use mathlib.Core.Path.{_≡_, refl}
+use mathlib.Core.Path.{_≡_, refl, sym, _∙_}
 use Prim.Native.Nat.{ℕ}
-use borrow.Author.Tests.{not-true}
+use borrow.Author.Tests.{not-true, eq-eqb, ne-eqb}
 use lib.Dec.{T, eqb, T-not}
 use Rattle.model.specs.Questions.{Question, _asks_, firstNo, imageQuestions, check}
 use Rattle.laws.specs.Tests.{and-l, and-r, true-T, T-true, two, said-no, said-yes}
@@ -29,15 +29,22 @@ passed-first (q ∷ qs) n e = go (passed-first qs (and-r (not (eqb (q .number) 0
     go rest true a f = (true-T (q .answer) a, rest f)
     go rest false a f = absurd (T-not (eqb (q .number) 0) (and-l (not (eqb (q .number) 0)) (numbered qs) n) (rw f tt))
 
--- Questions asked one after the other, as code does. One of them, whose answer a was told as t, and those after it.
-module _ (n : ℕ) (a : Bool) (qs : List Question) (t : Bool) (told : t ≡ a) where
-  pub asked-no : not t ≡ true → n ≡ firstNo (n asks a ∷ qs)
+-- Questions asked one after the other, as code does: one of them, whose answer is a, and those after it. The code tests it itself, or was told its answer as t.
+module _ (n : ℕ) (a : Bool) (qs : List Question) where
+  pub tested-no : a ≡ false → n ≡ firstNo (n asks a ∷ qs)
   unfolding firstNo
-  asked-no h = rw (said-no a t told h)
+  tested-no h = rw h
 
-  pub asked-yes : (r : ℕ) → not t ≡ false → r ≡ firstNo qs → r ≡ firstNo (n asks a ∷ qs)
+  pub tested-yes : (r : ℕ) → a ≡ true → r ≡ firstNo qs → r ≡ firstNo (n asks a ∷ qs)
   unfolding firstNo
-  asked-yes r h e = rw (said-yes a t told h) e
+  tested-yes r h e = rw h e
+
+  module _ (t : Bool) (told : t ≡ a) where
+    pub asked-no : not t ≡ true → n ≡ firstNo (n asks a ∷ qs)
+    asked-no h = tested-no (said-no a t told h)
+
+    pub asked-yes : (r : ℕ) → not t ≡ false → r ≡ firstNo qs → r ≡ firstNo (n asks a ∷ qs)
+    asked-yes r h e = tested-yes r (said-yes a t told h) e
 
 pub asked-all : 0 ≡ firstNo []
 unfolding firstNo
@@ -53,9 +60,13 @@ first-append (q ∷ qs) rs n =
       | inr e ↦ rw (e, not-true (eqb (q .number) 0) (T-true (not (eqb (q .number) 0)) (and-l (not (eqb (q .number) 0)) (numbered qs) n)))
     ]
 
-pub image-first : (img : List ℕ) (rs : List Question) → firstNo (imageQuestions img ++ rs) ≡ cond (eqb (check img) 0) (firstNo rs) (check img)
-unfolding check imageQuestions
-image-first img rs = first-append (imageQuestions img) rs tt
+-- as code asks them: n is what the first said
+module _ (qs rs : List Question) (n : ℕ) (named : T (numbered qs)) (said : n ≡ firstNo qs) where
+  pub first-left : (n ≡ 0 → ⊥) → n ≡ firstNo (qs ++ rs)
+  first-left h = sym (first-append qs rs named ∙ rw (← said, ne-eqb n 0 h))
+
+  pub first-right : (r : ℕ) → n ≡ 0 → r ≡ firstNo rs → r ≡ firstNo (qs ++ rs)
+  first-right r h e = e ∙ sym (first-append qs rs named ∙ rw (← said, eq-eqb n 0 h))
 
 -- the questions of an accepted image are answered yes
 pub image-passed : (img : List ℕ) → check img ≡ 0 → Passed (imageQuestions img)

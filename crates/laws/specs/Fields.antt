@@ -7,6 +7,7 @@ use Prim.Native.Nat.{ℕ, zero, suc, _+_, _*_, _/_, _%_, _^_, _<_, _≤_}
 use native.Mathlib.Nat.{add-zero, zero-add, add-assoc}
 use native.Mathlib.Omega.{arith}
 use borrow.Author.Tests.{le-leb, lt-leb}
+use lib.Arith.{mod-mul}
 use lib.Dec.{leb, lit<}
 use lib.ListN.{length, take, drop, length-append, length-drop}
 use lib.Seq.{take-at, drop-at, take-add, drop-drop, length-take-le}
@@ -82,6 +83,21 @@ field-empty s at = go (leb (at + zero) (length s))
 power-positive : (k : ℕ) → 0 < 256 ^ k
 power-positive zero = lit< tt
 power-positive (suc k) = let h : 0 < 256 ^ k = power-positive k in omega arith
+
+-- k bytes hold a number modulo 256 ^ k
+
+head-tail : (x q r : ℕ) → x ≡ q * 256 + r → r < 256 → (x % 256 ≡ r) × (x / 256 ≡ q)
+head-tail x q r e h = (omega arith, omega arith)
+
+pub bytes-mod : (k v : ℕ) → bytesOf k (v % 256 ^ k) ≡ bytesOf k v
+bytes-mod zero v = refl
+bytes-mod (suc k) v =
+    let split : v % (256 ^ k * 256) ≡ v / 256 % 256 ^ k * 256 + v % 256 = mod-mul v (power-positive k) (lit< tt) in
+    let power : 256 ^ suc k ≡ 256 ^ k * 256 = omega arith in
+    let whole : v % 256 ^ suc k ≡ v / 256 % 256 ^ k * 256 + v % 256 = ap (λ (m : ℕ). v % m) power ∙ split in
+    let byte : v % 256 < 256 = omega arith in
+    let parts = head-tail (v % 256 ^ suc k) (v / 256 % 256 ^ k) (v % 256) whole byte in
+    rw (parts .0, parts .1, bytes-mod k (v / 256))
 
 pub field-drop : (k : ℕ) (s : List ℕ) (d at : ℕ) → fieldAt k (drop d s) at ≡ fieldAt k s (d + at)
 field-drop zero s d at = field-empty (drop d s) at ∙ sym (field-empty s (d + at))

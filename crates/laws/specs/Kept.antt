@@ -14,7 +14,7 @@ use Rattle.model.specs.declared.SubjectRow.{SubjectRow}
 use Rattle.model.specs.declared.GrantRow.{GrantRow}
 use Rattle.model.specs.declared.LineRow.{LineRow}
 use Rattle.model.specs.declared.ItemRow.{ItemRow}
-use Rattle.model.specs.Lists.{All, every, everyNumbered, ifThere}
+use Rattle.model.specs.Lists.{All, every, everyNumbered, isThere}
 use Rattle.model.specs.Sorted.{find, put, cut, ascending}
 use Rattle.model.specs.Tree.{inTree}
 use Rattle.model.specs.WhoAndWhat.{custodian, everything, has, within}
@@ -36,7 +36,7 @@ record SortedRows {A : Type 0} (key : A → List ℕ) (Good : A → Type 0) (roo
   sorted : T (ascending key rows)
 
 module _ {A : Type 0} (key : A → List ℕ) (Good : A → Type 0) (room : ℕ) (rows : List A) (old : SortedRows key Good room rows) where
-  rows-put : (r : A) → Good r → T (ifThere (λ x. true) (find key (key r) rows) || ltb (length rows) room) → SortedRows key Good room (put key r rows)
+  rows-put : (r : A) → Good r → T (isThere (find key (key r) rows) || ltb (length rows) room) → SortedRows key Good room (put key r rows)
   rows-put r good free =
       record {
         within-room = put-fits key r rows room (old .within-room) free;
@@ -175,7 +175,7 @@ module _ (t : Tables) (w : WellFormed t) where
 
   grant-put : (g : GrantRow)
       → GoodGrant t g
-      → T (ifThere (λ x. true) (find grantKey (grantKey g) (t .grants)) || ltb (length (t .grants)) (t .room .grants))
+      → T (isThere (find grantKey (grantKey g) (t .grants)) || ltb (length (t .grants)) (t .room .grants))
       → WellFormed (withGrants t (put grantKey g (t .grants)))
   grant-put g good free =
       grants-anew (put grantKey g (t .grants)) (rows-put grantKey (GoodGrant t) (t .room .grants) (t .grants) grant-rows g good free)
@@ -205,7 +205,7 @@ module _ (t : Tables) (w : WellFormed t) where
 
   line-put : (l : LineRow)
       → GoodLine t l
-      → T (ifThere (λ x. true) (find lineKey (lineKey l) (t .lines)) || ltb (length (t .lines)) (t .room .lines))
+      → T (isThere (find lineKey (lineKey l) (t .lines)) || ltb (length (t .lines)) (t .room .lines))
       → WellFormed (withLines t (put lineKey l (t .lines)))
   line-put l good free =
       lines-anew (put lineKey l (t .lines)) (rows-put lineKey (GoodLine t) (t .room .lines) (t .lines) line-rows l good free)

@@ -1,4 +1,4 @@
--- Theorems about the definitions of `model` alone. specs/Lib.antt of `model` has the definitions.
+-- Theorems about the definitions of `model` alone, in the words in which code comes to them. specs/Lib.antt of `model` has the definitions.
 -- First laws of the words: tests, sorted tables, sets, trees, rows by number, questions.
 pub mod Tests
 pub mod Sorted
@@ -14,8 +14,8 @@ pub mod Blocks
 pub mod Laid
 pub mod Back
 pub mod There
--- Last the calls: each keeps the tables well-formed, and from an accepted image leaves an accepted one.
+-- Last the calls. Those that ask, return by return, as code answers them.
+pub mod Asks
+-- Those that write: each keeps the tables well-formed, from an accepted image leaves an accepted one, and return by return is what code comes to.
 pub mod Kept
 pub mod Acts
--- And the calls that ask, return by return, as code answers them.
-pub mod Asks

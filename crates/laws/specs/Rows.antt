@@ -65,7 +65,7 @@ module _ {A : Type 0} (f : Format A) where
       All-append (λ b. b < 256) (rowInBytes f x) (joined f xs) (row-bytes (f .widths) (f .numbers x)) (joined-bytes xs)
 
   module _ (law : Lawful f) where
-    row-long : (x : A) → length (rowInBytes f x) ≡ size f
+    pub row-long : (x : A) → length (rowInBytes f x) ≡ size f
     row-long x = row-length (f .widths) (f .numbers x) (law .counted x)
 
     pub joined-length : (xs : List A) → length (joined f xs) ≡ length xs * size f

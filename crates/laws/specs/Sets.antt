@@ -61,3 +61,7 @@ pub within-everything : (w v : ℕ) → v < 256 ^ w → T (within v (everything 
 within-everything w v h =
     let whole : v ∩ everything w ≡ v = rw (bytes-positions w) (and-all (8 * w) v (rw (bytes-positions w) at h)) in
     true-T (within v (everything w)) (eq-eqb (v ∩ everything w) v whole)
+
+-- a position and a set that were told by callees
+pub has-told : (n m a b : ℕ) (r : Bool) → n ≡ m → a ≡ b → r ≡ has n a → r ≡ has m b
+has-told n m a b r position set e = rw (← position, ← set) e

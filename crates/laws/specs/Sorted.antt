@@ -12,7 +12,7 @@ use native.Mathlib.Omega.{arith}
 use borrow.Author.Tests.{lt-ltb, le-ltb, eq-eqb, ne-eqb}
 use lib.Dec.{T, ltb, ltb→lt, leb·suc-suc}
 use lib.ListN.{length, getD, take, drop, length-append, length-take, length-drop}
-use Rattle.model.specs.Lists.{All, select, ifThere}
+use Rattle.model.specs.Lists.{All, select, isThere}
 use Rattle.model.specs.Sorted.{before, same, find, place, put, cut, ascending}
 use Rattle.laws.specs.Tests.{T-true, true-T, and-i, and-l, and-r, lt-eq-gt, All-map}
 
@@ -400,10 +400,10 @@ module _ {A : Type 0} (key : A → List ℕ) where
   -- where the row is there already or one is free, there is room for the row put
   pub put-fits : (r : A) (xs : List A) (room : ℕ)
       → length xs ≤ room
-      → T (ifThere (λ x. true) (find key (key r) xs) || ltb (length xs) room)
+      → T (isThere (find key (key r) xs) || ltb (length xs) room)
       → length (put key r xs) ≤ room
   put-fits r xs room h t = go (find key (key r) xs) refl t
     where
-      go : (o : Option A) → find key (key r) xs ≡ o → T (ifThere (λ x. true) o || ltb (length xs) room) → length (put key r xs) ≤ room
+      go : (o : Option A) → find key (key r) xs ≡ o → T (isThere o || ltb (length xs) room) → length (put key r xs) ≤ room
       go none e u = omega (arith, length-put-new r xs e, ltb→lt (length xs) room u)
       go (some y) e u = omega (arith, length-put-over r xs y e)

@@ -22,10 +22,10 @@ use Rattle.laws.specs.Answers.{first-passed}
 
 -- Blocks in a row: their header has numbers that fit, and their bytes are as long as they say.
 
-record Sized (b : Block) : Type 0 where
-  used-few : b .used ≤ b .extent
-  long : length (b .bytes) ≡ b .extent
-  are-bytes : Bytes (b .bytes)
+pub record Sized (b : Block) : Type 0 where
+  pub used-few : b .used ≤ b .extent
+  pub long : length (b .bytes) ≡ b .extent
+  pub are-bytes : Bytes (b .bytes)
 
 header-fits : (at : ℕ) (bs : List Block) → All Sized bs → at + extents bs < 256 ^ 4 → All (λ v. v < 256 ^ 4) (headerOf at bs)
 header-fits at [] s h = (omega arith, tt)
@@ -37,7 +37,7 @@ fit-same : (w : ℕ) (vs : List ℕ) → All (λ v. v < 256 ^ w) vs → Fit (rep
 fit-same w [] h = tt
 fit-same w (v ∷ vs) h = (h .0, fit-same w vs (h .1))
 
-body-length : (bs : List Block) → All Sized bs → length (bodyOf bs) ≡ extents bs
+pub body-length : (bs : List Block) → All Sized bs → length (bodyOf bs) ≡ extents bs
 body-length [] s = refl
 body-length (b ∷ bs) s = rw (length-append, s .0 .long, body-length bs (s .1))
 
@@ -56,7 +56,7 @@ sized f law room xs few =
     }
 
 -- The layout that the nine numbers of a header are.
-abbrev layoutFrom : List ℕ → Layout
+abbrev pub layoutFrom : List ℕ → Layout
 layoutFrom h =
     record {
       subjects = record { used = getD h 0 0; start = getD h 1 0; end = getD h 3 0 };
@@ -77,7 +77,7 @@ module _ (t : Tables) (good : WellFormed t) where
   abbrev w : ℕ
   w = widthIn t
 
-  sizes : All Sized (blocks t)
+  pub sizes : All Sized (blocks t)
   sizes =
       sized (subjectFormat w) (subject-lawful w) (t .room .subjects) (t .subjects) (good .subjects-room)
       and sized (grantFormat w) (grant-lawful w) (t .room .grants) (t .grants) (good .grants-room)
@@ -98,10 +98,10 @@ module _ (t : Tables) (good : WellFormed t) where
       fields-there headerWidths (headerOf headerSize (blocks t)) (bodyOf (blocks t)) refl
       (fit-same 4 (headerOf headerSize (blocks t)) (header-fits headerSize (blocks t) sizes (omega (arith, good .short))))
 
-  abbrev lay : Layout
+  abbrev pub lay : Layout
   lay = layoutFrom (headerOf headerSize (blocks t))
 
-  layout-there : layoutOf (encode t) ≡ lay
+  pub layout-there : layoutOf (encode t) ≡ lay
   layout-there = layout-from (encode t) ∙ ap layoutFrom header-there
 
   -- Where each block stands.

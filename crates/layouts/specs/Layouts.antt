@@ -1,13 +1,10 @@
 -- Question 2: the rules of one table, told by a callee that knows the size of its rows as a number.
 use mathlib.Core.Bool.{Bool, true, false, _&&_, not}
-use mathlib.Core.List.{[], _∷_}
 use mathlib.Core.Path.{_≡_, ap, _∙_}
-use Prim.Native.Nat.{ℕ, _-_, _/_, _%_, _<_}
-use lib.Dec.{eqb, leb}
+use Prim.Native.Nat.{ℕ, _<_}
 use Rattle.model.specs.declared.Table.{Table}
 use Rattle.model.specs.declared.Layout.{Layout}
-use Rattle.model.specs.Lists.{allOf}
-use Rattle.model.specs.Image.{Format, size, subjectFormat, grantFormat, lineFormat, itemFormat, widthOf}
+use Rattle.model.specs.Image.{Format, size, liesBy, subjectFormat, grantFormat, lineFormat, itemFormat, widthOf}
 use Rattle.laws.specs.Tests.{and-no, and-yes, said-no, said-yes}
 use Rattle.laws.specs.Rows.{Lawful, subject-lawful, grant-lawful, line-lawful, item-lawful}
 
@@ -28,10 +25,6 @@ module _ (lay : Layout) (n : ℕ) where
 
 pub items-wide : (n : ℕ) → n ≡ size itemFormat → 0 < n
 items-wide n = sized-wide itemFormat n item-lawful
-
--- the rules of one table whose rows have n bytes
-abbrev pub liesBy : ℕ → Table → Bool
-liesBy n t = allOf (leb (t .start) (t .end) ∷ eqb ((t .end - t .start) % n) 0 ∷ leb (t .used) ((t .end - t .start) / n) ∷ [])
 
 -- One table among the rules: b is what was told of it, n the size with which it was asked, m the size by the definition. The rest of the list follows.
 module _ (t : Table) (n m : ℕ) (b rest : Bool) (told : b ≡ liesBy n t) (sized : n ≡ m) where

@@ -1,12 +1,11 @@
 // Questions 1 and 2: the length, and where the tables lie.
 ghost use mathlib.Core.Bool.{_&&_};
-ghost use mathlib.Core.List.{[], _∷_};
 ghost use mathlib.Core.Path.{_≡_};
-ghost use Prim.Native.Nat.{_-_, _/_, _%_, _<_};
-ghost use lib.Dec.{eqb, leb};
+ghost use Prim.Native.Nat.{_<_};
+ghost use lib.Dec.{leb};
 ghost use lib.ListN.{length};
 ghost use Rattle.model.specs.Lists.{allOf};
-ghost use Rattle.model.specs.Image.{layoutRules};
+ghost use Rattle.model.specs.Image.{layoutRules, liesBy};
 use model::Layout;
 use model::Table;
 use widths::grant_size;
@@ -53,7 +52,7 @@ pub fn layout_holds(image: &[u8], layout: Layout) -> bool
 // product with a count out of the header could be too large.
 fn lies(table: Table, size: usize) -> bool
     requires { ⌜ 0 < size ⌝ }
-    ensures { λ r. ⌜ r ≡ allOf (leb (table .start) (table .end) ∷ eqb ((table .end - table .start) % size) 0 ∷ leb (table .used) ((table .end - table .start) / size) ∷ []) ⌝ }
+    ensures { λ r. ⌜ r ≡ liesBy size table ⌝ }
 {
     if table.end < table.start {
         return false;

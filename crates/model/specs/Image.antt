@@ -159,6 +159,10 @@ widthOf lay = privilegeWidth
 abbrev pub widthIn : Tables → ℕ
 widthIn t = privilegeWidth
 
+-- the rows of n bytes that a table has room for
+abbrev pub roomBy : ℕ → Table → ℕ
+roomBy n t = (t .end - t .start) / n
+
 module _ {A : Type 0} (f : Format A) where
   -- the first n rows of s
   abbrev pub rowsFrom : ℕ → List ℕ → List A
@@ -170,7 +174,7 @@ module _ {A : Type 0} (f : Format A) where
   rowsIn t img = rowsFrom (t .used) (drop (t .start) img)
 
   abbrev pub capacity : Table → ℕ
-  capacity t = (t .end - t .start) / size f
+  capacity t = roomBy (size f) t
 
 abbrev pub roomsBy : Layout → Rooms
 roomsBy lay =
@@ -269,8 +273,12 @@ noneOrList rows a = eqb a 0 || isList rows a
 
 -- The rules of the rows.
 
+-- row 0 is the custodian's
+abbrev pub custodianRules : ℕ → SubjectRow → Bool
+custodianRules w s = allOf (eqb (s .parent .0) 0 ∷ eqb (s .privileges) (everything w) ∷ eqb (s .creator .0) 0 ∷ [])
+
 abbrev pub subjectRules : ℕ → List SubjectRow → ℕ → SubjectRow → Bool
-subjectRules w rows zero s = allOf (eqb (s .parent .0) 0 ∷ eqb (s .privileges) (everything w) ∷ eqb (s .creator .0) 0 ∷ [])
+subjectRules w rows zero s = custodianRules w s
 subjectRules w rows (suc n) s =
     allOf (ltb (s .parent .0) (suc n) ∷ ltb (s .creator .0) (suc n) ∷ within (s .privileges) (privilegesIn rows (s .creator .0)) ∷ [])
 
@@ -327,10 +335,13 @@ grantsHold t = every (grantRules (t .subjects)) (t .grants) && ascending grantKe
 
 -- The rules of the layout.
 
+-- a table whose rows have n bytes does not end before it starts, is whole rows, and has room for those in use
+abbrev pub liesBy : ℕ → Table → Bool
+liesBy n t = allOf (leb (t .start) (t .end) ∷ eqb ((t .end - t .start) % n) 0 ∷ leb (t .used) (roomBy n t) ∷ [])
+
 module _ {A : Type 0} (f : Format A) where
-  -- the table does not end before it starts, is whole rows, and has room for those in use
   abbrev pub tableLies : Table → Bool
-  tableLies t = allOf (leb (t .start) (t .end) ∷ eqb ((t .end - t .start) % size f) 0 ∷ leb (t .used) (capacity f t) ∷ [])
+  tableLies t = liesBy (size f) t
 
   -- the bytes of its rows that are not in use
   abbrev pub unused : Table → List ℕ → List ℕ

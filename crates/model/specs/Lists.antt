@@ -49,6 +49,10 @@ module _ {A : Type 0} where
   ifThere test none = false
   ifThere test (some a) = test a
 
+  -- whether it is not missing
+  abbrev pub isThere : Option A → Bool
+  isThere = ifThere (λ a. true)
+
 -- nothing but zeros
 abbrev pub zeros : List ℕ → Bool
 zeros = every (λ b. eqb b 0)

@@ -1,18 +1,21 @@
 -- Document 01, "Questions before each call": the questions of each call as one list, in the paper's order, and the first no. Then what a call
 -- answers and leaves, for any list of bytes and any numbers.
-use mathlib.Core.Bool.{Bool, true, _&&_, _||_, not, cond}
+use mathlib.Core.Bool.{Bool, _&&_, _||_, not, cond}
 use mathlib.Core.List.{List, [], _∷_, _++_}
+use mathlib.Core.Option.{Option}
 use mathlib.Core.Logic.{_≢_}
 use mathlib.Core.Path.{_≡_}
 use Prim.Native.Nat.{ℕ, _+_, _*_}
 use lib.ListN.{length, take, drop}
 use lib.Dec.{T, eqb, ltb, leb}
 use Rattle.model.specs.declared.Answer.{Answer}
-use Rattle.model.specs.Lists.{allOf, someNumbered, ifThere}
+use Rattle.model.specs.declared.GrantRow.{GrantRow}
+use Rattle.model.specs.declared.Layout.{Layout}
+use Rattle.model.specs.Lists.{allOf, someNumbered, ifThere, isThere}
 use Rattle.model.specs.Sorted.{find}
 use Rattle.model.specs.Tree.{inTree}
 use Rattle.model.specs.WhoAndWhat.{custodian, createItems, defineSubjects, editList, has}
-use Rattle.model.specs.Image.{Tables, layoutOf, tables, encode, widthOf, size, lineFormat, grantKey, lineKey, parentIn, subjectUsed, itemIn, itemUsed, isList, isLocked, noneOrList, kindFits, layoutRules, subjectsHold, itemsHold, linesHold, grantsHold, unusedRules}
+use Rattle.model.specs.Image.{Tables, layoutOf, tablesBy, tables, encode, widthOf, size, lineFormat, grantKey, lineKey, parentIn, subjectUsed, itemIn, itemUsed, isList, isLocked, noneOrList, kindFits, layoutRules, subjectsHold, itemsHold, linesHold, grantsHold, unusedRules}
 use Rattle.model.specs.Permission.{grantOf, operationSet, permissionSet}
 use Rattle.model.specs.Calls.{Ask, Change, rowsOf, rowsBefore, isEditor, told, after, made}
 use Rattle.model.specs.Calls.Ask.{checkImage, operationSetOf, permissionSetOf, countLines}
@@ -31,17 +34,21 @@ unfoldable pub firstNo : List Question → ℕ
 firstNo [] = 0
 firstNo (q ∷ qs) = cond (q .answer) (firstNo qs) (q .number)
 
--- Questions 1 to 7, which concern every call.
-unfoldable pub imageQuestions : List ℕ → List Question
-imageQuestions img =
+-- Questions 1 to 7, which concern every call, of bytes whose tables lie by a layout.
+abbrev pub questionsBy : Layout → List ℕ → List Question
+questionsBy lay img =
     1 asks (leb 36 (length img) && leb (length img) 65536)
-    ∷ 2 asks allOf (layoutRules (layoutOf img) img)
-    ∷ 3 asks subjectsHold (tables img)
-    ∷ 4 asks itemsHold (tables img)
-    ∷ 5 asks linesHold (tables img)
-    ∷ 6 asks grantsHold (tables img)
-    ∷ 7 asks allOf (unusedRules (layoutOf img) img)
+    ∷ 2 asks allOf (layoutRules lay img)
+    ∷ 3 asks subjectsHold (tablesBy lay img)
+    ∷ 4 asks itemsHold (tablesBy lay img)
+    ∷ 5 asks linesHold (tablesBy lay img)
+    ∷ 6 asks grantsHold (tablesBy lay img)
+    ∷ 7 asks allOf (unusedRules lay img)
     ∷ []
+
+-- The layout is the one that the header gives.
+unfoldable pub imageQuestions : List ℕ → List Question
+imageQuestions img = questionsBy (layoutOf img) img
 
 -- The others, by call.
 
@@ -55,18 +62,29 @@ unfoldable pub editorQuestions : Tables → ℕ → List Question
 editorQuestions t a = 13 asks isList (t .items) a ∷ 20 asks someNumbered (λ s row. isEditor t a s) (t .subjects) ∷ []
 
 -- 16 of define subject: p is in the tree of the caller or of its claimed role's grantor
+abbrev pub inReachUnder : Tables → ℕ → Option GrantRow → ℕ → Bool
+inReachUnder t c grant p = inTree (parentIn (t .subjects)) c p || ifThere (λ g. inTree (parentIn (t .subjects)) (g .grantor .0) p) grant
+
 abbrev pub inReach : Tables → ℕ → ℕ → ℕ → Bool
-inReach t c r p = inTree (parentIn (t .subjects)) c p || ifThere (λ g. inTree (parentIn (t .subjects)) (g .grantor .0) p) (grantOf t c r)
+inReach t c r p = inReachUnder t c (grantOf t c r) p
 
 abbrev pub grantThere : Tables → ℕ → ℕ → Bool
-grantThere t s r = ifThere (λ g. true) (find grantKey (s ∷ r ∷ []) (t .grants))
+grantThere t s r = isThere (find grantKey (s ∷ r ∷ []) (t .grants))
 
 abbrev pub lineThere : Tables → ℕ → ℕ → ℕ → Bool
-lineThere t a k s = ifThere (λ l. true) (find lineKey (a ∷ k ∷ s ∷ []) (t .lines))
+lineThere t a k s = isThere (find lineKey (a ∷ k ∷ s ∷ []) (t .lines))
 
--- the row for (s, r) is there and c is its grantor
+-- a row that may be missing is there, and c is its grantor
+abbrev pub givenBy : ℕ → Option GrantRow → Bool
+givenBy c = ifThere (λ g. eqb (g .grantor .0) c)
+
+-- of the row for (s, r)
 abbrev pub grantedBy : Tables → ℕ → ℕ → ℕ → Bool
-grantedBy t c s r = ifThere (λ g. eqb (g .grantor .0) c) (find grantKey (s ∷ r ∷ []) (t .grants))
+grantedBy t c s r = givenBy c (find grantKey (s ∷ r ∷ []) (t .grants))
+
+-- 15 of bind: c is the owner of an unlocked item, or the custodian
+abbrev pub mayBind : Tables → ℕ → ℕ → Bool
+mayBind t c i = eqb c (itemIn (t .items) i .owner .0) && not (isLocked (t .items) i) || eqb c custodian
 
 unfoldable pub questions : Tables → Change → List Question
 questions t (defineSubject c r p v) =
@@ -119,7 +137,7 @@ questions t (bind c i a) =
     10 asks subjectUsed (t .subjects) c
     ∷ 12 asks itemUsed (t .items) i
     ∷ 13 asks noneOrList (t .items) a
-    ∷ 15 asks (eqb c (itemIn (t .items) i .owner .0) && not (isLocked (t .items) i) || eqb c custodian)
+    ∷ 15 asks mayBind t c i
     ∷ []
 questions t (handOver c i o) =
     10 asks subjectUsed (t .subjects) c

@@ -170,6 +170,8 @@ impl ItemRow {
     pub const IS_LIST: u32 = 1;
 
     pub const LOCKED: u32 = 2;
+    // How many numbers the two bits make: flags from here on have a bit that means nothing.
+    pub const FLAGS: u32 = 4;
 
     pub fn new(owner: Subject, list: Item, flags: u32) -> ItemRow
         ensures { λ r. ⌜ r ≡ itemRow (owner .0) (list .0) flags ⌝ }
@@ -181,6 +183,12 @@ impl ItemRow {
         ensures { λ r. ⌜ r ≡ has 0 (self .flags) ⌝ }
     {
         self.flags & ItemRow::IS_LIST != 0
+    }
+
+    pub fn is_locked(self) -> bool
+        ensures { λ r. ⌜ r ≡ has 1 (self .flags) ⌝ }
+    {
+        self.flags & ItemRow::LOCKED != 0
     }
 }
 

@@ -1,11 +1,7 @@
 // Questions 3 to 6: the rules of the rows, table by table. Each pass ends at the first row that breaks one. A climb stands behind the test that its number
 // is in use, so that its length is bounded by the table.
-ghost use mathlib.Core.List.{[], _∷_};
 ghost use mathlib.Core.Path.{_≡_};
-ghost use lib.Dec.{eqb};
-ghost use Rattle.model.specs.Lists.{allOf};
-ghost use Rattle.model.specs.WhoAndWhat.{everything};
-ghost use Rattle.model.specs.Image.{tablesBy, widthOf, widthIn, subjectIn, itemIn, subjectsHold, itemsHold, linesHold, grantsHold, subjectRules, itemRules, lineRules, grantRules};
+ghost use Rattle.model.specs.Image.{tablesBy, widthOf, widthIn, subjectIn, itemIn, subjectsHold, itemsHold, linesHold, grantsHold, custodianRules, subjectRules, itemRules, lineRules, grantRules};
 use codec::read_rows::grant_at;
 use codec::read_rows::item_at;
 use codec::read_rows::line_at;
@@ -15,6 +11,7 @@ use keys::lines::kind_fits;
 use keys::lines::line_before;
 use model::GrantRow;
 use model::Item;
+use model::ItemRow;
 use model::Layout;
 use model::LineRow;
 use model::Role;
@@ -61,7 +58,7 @@ fn subject_fits(image: &[u8], layout: Layout, n: u32) -> bool
 
 // Row 0: parent 0, all privileges, creator 0.
 fn custodian_fits(layout: Layout, row: SubjectRow) -> bool
-    ensures { λ r. ⌜ r ≡ allOf (eqb (row .parent .0) 0 ∷ eqb (row .privileges) (everything (widthOf layout)) ∷ eqb (row .creator .0) 0 ∷ []) ⌝ }
+    ensures { λ r. ⌜ r ≡ custodianRules (widthOf layout) row ⌝ }
 {
     if row.parent.0 != 0 {
         return false;
@@ -97,7 +94,7 @@ fn item_fits(image: &[u8], layout: Layout, item: Item) -> bool
     if !none_or_list(image, layout, row.list) {
         return false;
     }
-    row.flags < 4
+    row.flags < ItemRow::FLAGS
 }
 
 // Lines hold their rules and ascend. A row that holds its rules names a list, so its key comes after that of a row of zeros: the first row

@@ -1,5 +1,5 @@
-// Runs the calls on the sample workshop of document 01 and prints what they answer: the twelve sets, the check of four lengths, and the other
-// calls that ask.
+// Runs the calls on the sample workshop of document 01 and prints what they answer: the twelve sets, the check of four lengths, the other calls that ask,
+// and the calls that change the tables.
 use asking::check_image;
 use asking::count_lines;
 use asking::find_editor;
@@ -7,19 +7,22 @@ use asking::lines_of;
 use asking::operation_set;
 use asking::permission_set;
 use fields::put_field;
-use model::Answer;
 use model::Item;
 use model::Role;
 use model::Subject;
+use printing::print_answer;
+use printing::print_number;
 
+mod changes;
+mod printing;
 mod workshop;
 
 fn main() {
-    let mut image = [0u8; workshop::LENGTH];
-    workshop::write(&mut image);
+    let image = workshop::image();
     print_sets(&image);
     print_checks();
     print_others(&image);
+    changes::print_changes();
 }
 
 fn print_sets(image: &[u8]) {
@@ -85,15 +88,4 @@ fn print_others(image: &[u8]) {
     io::print_decimal(1, lines_of(image, Item(1)).len() as u64);
     io::write_all(1, b"\neditor of list 1: number subject\n");
     print_answer(find_editor(image, Item(1)));
-}
-
-fn print_answer(answer: Answer) {
-    print_number(answer.number);
-    io::print_decimal(1, answer.result as u64);
-    io::write_all(1, b"\n");
-}
-
-fn print_number(n: u32) {
-    io::print_decimal(1, n as u64);
-    io::write_all(1, b" ");
 }

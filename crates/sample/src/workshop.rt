@@ -1,7 +1,7 @@
 // The sample workshop of document 01 as an image, field by field.
 use fields::put_field;
 
-pub const LENGTH: usize = 316;
+const LENGTH: usize = 316;
 
 const FIELDS: [u32; 79] = [
     // used rows and offset of subjects, of grants, of lines and of items, and the total length
@@ -106,7 +106,14 @@ const FIELDS: [u32; 79] = [
     0,
 ];
 
-pub fn write(image: &mut [u8]) {
+// The workshop afresh.
+pub fn image() -> [u8; LENGTH] {
+    let mut image = [0u8; LENGTH];
+    write(&mut image);
+    image
+}
+
+fn write(image: &mut [u8]) {
     let mut n = 0;
     while n < 79 {
         put_field(image, n * 4, FIELDS[n]);

@@ -1,5 +1,5 @@
 // What depends on the bytes of a privilege field: the field itself, the sizes of the rows and where they lie. All else that reads or
-// writes rows goes through here.
+// writes rows goes through here, but for the arrays in which `stores` makes the bytes of a new row.
 ghost use mathlib.Core.Path.{_≡_};
 ghost use Prim.Native.Nat.{_+_, _*_, _≤_, _<_, _^_};
 ghost use Rattle.model.specs.Image.{bytesOf, fieldAt, size, subjectFormat, grantFormat, lineFormat, itemFormat, widthOf};

@@ -1,0 +1,65 @@
+-- `changing_items::bind` meets its contract: the answer at each return, and by it the image.
+use borrow.Author.Needs.{needs}
+use Rattle.model.specs.Calls.{made}
+use Rattle.changing_items.specs.Items.{item-bound}
+use Rattle.laws.specs.Acts.{act-image, act-no, also, kept, act-done}
+use Rattle.changing_items.proofs.bind.Statement.{statement}
+use Rattle.changing_items.proofs.bind.Tie as tie
+
+check-requires : tie.Need-check-requires
+check-requires c κs = search needs
+
+refused-requires : tie.Need-refused-requires
+refused-requires c κs = search needs
+
+same-length : tie.Need-same-length
+same-length c = search needs
+
+returns : tie.Need-returns
+returns c = also _ _ _ _ (search act-image) (λ h. search kept)
+
+layout-of-requires : tie.Need-layout-of-requires
+layout-of-requires c κs = search needs
+
+bind-refusal-requires : tie.Need-bind-refusal-requires
+bind-refusal-requires c κs = search needs
+
+refused-requires-2 : tie.Need-refused-requires-2
+refused-requires-2 c κs = search needs
+
+same-length-2 : tie.Need-same-length-2
+same-length-2 c = search needs
+
+returns-2 : tie.Need-returns-2
+returns-2 c = also _ _ _ _ (search act-no) (λ h. search kept)
+
+put-list-requires : tie.Need-put-list-requires
+put-list-requires c κs = search needs
+
+done-requires : tie.Need-done-requires
+done-requires c κs = search needs
+
+same-length-3 : tie.Need-same-length-3
+same-length-3 c = search needs
+
+returns-3 : tie.Need-returns-3
+unfolding made
+returns-3 c = also _ _ _ _ (search act-done) (λ h. search item-bound)
+
+pub bind-spec : {M : Type 1} → statement M
+bind-spec =
+    tie.close
+    (tie.spec
+    check-requires
+    refused-requires
+    same-length
+    returns
+    layout-of-requires
+    bind-refusal-requires
+    refused-requires-2
+    same-length-2
+    returns-2
+    put-list-requires
+    done-requires
+    same-length-3
+    returns-3)

@@ -1,0 +1,71 @@
+-- `changing_items::create_item` meets its contract: the answer at each return, and by it the image.
+use borrow.Author.Needs.{needs}
+use Rattle.changing_items.specs.Items.{made-item, number-fits, item-created}
+use Rattle.laws.specs.Acts.{act-image, act-no, also, kept, act-done}
+use Rattle.changing_items.proofs.create_item.Statement.{statement}
+use Rattle.changing_items.proofs.create_item.Tie as tie
+
+check-requires : tie.Need-check-requires
+check-requires c κs = search needs
+
+refused-requires : tie.Need-refused-requires
+refused-requires c κs = search needs
+
+same-length : tie.Need-same-length
+same-length c = search needs
+
+returns : tie.Need-returns
+returns c = also _ _ _ _ (search act-image) (λ h. search kept)
+
+layout-of-requires : tie.Need-layout-of-requires
+layout-of-requires c κs = search needs
+
+create-refusal-requires : tie.Need-create-refusal-requires
+create-refusal-requires c κs = search needs
+
+refused-requires-2 : tie.Need-refused-requires-2
+refused-requires-2 c κs = search needs
+
+same-length-2 : tie.Need-same-length-2
+same-length-2 c = search needs
+
+returns-2 : tie.Need-returns-2
+returns-2 c = also _ _ _ _ (search act-no) (λ h. search kept)
+
+new-requires : tie.Need-new-requires
+new-requires c κs = search needs
+
+add-item-requires : tie.Need-add-item-requires
+add-item-requires c κs = search needs
+
+add-done : tie.Need-add-done
+add-done c = record { fits = search number-fits }
+
+done-requires : tie.Need-done-requires
+done-requires c κs = search needs
+
+same-length-3 : tie.Need-same-length-3
+same-length-3 c = search needs
+
+returns-3 : tie.Need-returns-3
+returns-3 c = also _ _ _ _ (search (act-done, made-item)) (λ h. search item-created)
+
+pub create-item-spec : {M : Type 1} → statement M
+create-item-spec =
+    tie.close
+    (tie.spec
+    check-requires
+    refused-requires
+    same-length
+    returns
+    layout-of-requires
+    create-refusal-requires
+    refused-requires-2
+    same-length-2
+    returns-2
+    new-requires
+    add-item-requires
+    add-done
+    done-requires
+    same-length-3
+    returns-3)

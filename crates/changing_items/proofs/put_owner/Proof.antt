@@ -1,0 +1,26 @@
+-- `changing_items::put_owner` meets its contract: the row was made of the one that was read.
+use borrow.Author.Needs.{needs}
+use Rattle.model.specs.Image.{tablesBy}
+use Rattle.changing_items.specs.Items.{owner-put}
+use Rattle.changing_items.proofs.put_owner.Statement.{statement}
+use Rattle.changing_items.proofs.put_owner.Tie as tie
+
+item-at-requires : tie.Need-item-at-requires
+item-at-requires c κs = search needs
+
+new-requires : tie.Need-new-requires
+new-requires c κs = search needs
+
+replace-item-requires : tie.Need-replace-item-requires
+replace-item-requires c κs = search needs
+
+same-length : tie.Need-same-length
+same-length c = search needs
+
+returns : tie.Need-returns
+unfolding tablesBy
+returns c = search owner-put
+
+pub put-owner-spec : {M : Type 1} → statement M
+put-owner-spec =
+    tie.close (tie.spec item-at-requires new-requires replace-item-requires same-length returns)

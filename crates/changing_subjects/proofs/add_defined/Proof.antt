@@ -1,0 +1,25 @@
+-- `changing_subjects::add_defined` meets its contract: the row was made of what callees gave.
+use borrow.Author.Needs.{needs}
+use Rattle.changing_subjects.specs.Subjects.{defined-row}
+use Rattle.changing_subjects.proofs.add_defined.Statement.{statement}
+use Rattle.changing_subjects.proofs.add_defined.Tie as tie
+
+kept-privileges-requires : tie.Need-kept-privileges-requires
+kept-privileges-requires c κs = search needs
+
+new-requires : tie.Need-new-requires
+new-requires c κs = search needs
+
+add-subject-requires : tie.Need-add-subject-requires
+add-subject-requires c κs = search needs
+
+same-length : tie.Need-same-length
+same-length c = search needs
+
+returns : tie.Need-returns
+returns c = search defined-row
+
+pub add-defined-spec : {M : Type 1} → statement M
+add-defined-spec =
+    tie.close
+    (tie.spec kept-privileges-requires new-requires add-subject-requires same-length returns)

@@ -1,0 +1,12 @@
+-- `ItemRow::is_locked` meets its contract: the flags meet the mask of position 1 exactly where they have the position.
+use mathlib.Core.Path.{refl}
+use borrow.Author.Needs.{needs}
+use Rattle.model.proofs.Positions.{meets}
+use Rattle.model.proofs.ItemRow.is_locked.Statement.{statement}
+use Rattle.model.proofs.ItemRow.is_locked.Tie as tie
+
+returns : tie.Need-returns
+returns c = meets 1 _ _ (search needs) refl
+
+pub is-locked-spec : {M : Type 1} → statement M
+is-locked-spec = tie.close (tie.spec returns)

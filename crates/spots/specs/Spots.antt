@@ -1,0 +1,27 @@
+-- Where a row with a key goes in its sorted table, by the definitions of `model`.
+use mathlib.Core.Bool.{Bool, true, false, cond}
+use mathlib.Core.List.{List}
+use Prim.Native.Nat.{ℕ}
+use lib.Dec.{eqb}
+use Rattle.model.specs.Lists.{isThere}
+use Rattle.model.specs.Sorted.{find, place}
+use Rattle.spots.specs.declared.Spot.{Spot}
+use Rattle.spots.specs.declared.Spot.the-variants.{Over, New, Refused}
+
+abbrev pub refusalOf : Spot → ℕ
+refusalOf (Over n) = 0
+refusalOf (New n) = 0
+refusalOf (Refused n) = n
+
+abbrev pub isOver : Spot → Bool
+isOver (Over n) = true
+isOver (New n) = false
+isOver (Refused n) = false
+
+-- over the row that has the key, or new at its sorted place
+abbrev pub spotIn : {A : Type 0} → (A → List ℕ) → List ℕ → List A → Spot
+spotIn key k xs = cond (isThere (find key k xs)) (Over (place key k xs)) (New (place key k xs))
+
+-- the spot, where questions are answered yes; the number of the first no otherwise
+abbrev pub asked : ℕ → Spot → Spot
+asked n spot = cond (eqb n 0) spot (Refused n)
