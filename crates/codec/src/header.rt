@@ -16,22 +16,22 @@ pub fn layout_of(image: &[u8]) -> Layout
     let total = field(image, 32);
     Layout {
         subjects: Table {
-            used: field(image, 0),
+            used: field(image, Layout::SUBJECTS_USED),
             start: subjects,
             end: grants,
         },
         grants: Table {
-            used: field(image, 8),
+            used: field(image, Layout::GRANTS_USED),
             start: grants,
             end: lines,
         },
         lines: Table {
-            used: field(image, 16),
+            used: field(image, Layout::LINES_USED),
             start: lines,
             end: items,
         },
         items: Table {
-            used: field(image, 24),
+            used: field(image, Layout::ITEMS_USED),
             start: items,
             end: total,
         },

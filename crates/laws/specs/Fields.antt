@@ -48,6 +48,25 @@ value-below (x ∷ s) b =
     let whole : x + 256 * value s < 256 ^ suc (length s) = omega arith in
     whole
 
+power-positive : (k : ℕ) → 0 < 256 ^ k
+power-positive zero = lit< tt
+power-positive (suc k) = let h : 0 < 256 ^ k = power-positive k in omega arith
+
+-- k bytes hold a number modulo 256 ^ k
+
+head-tail : (x q r : ℕ) → x ≡ q * 256 + r → r < 256 → (x % 256 ≡ r) × (x / 256 ≡ q)
+head-tail x q r e h = (omega arith, omega arith)
+
+pub bytes-mod : (k v : ℕ) → bytesOf k (v % 256 ^ k) ≡ bytesOf k v
+bytes-mod zero v = refl
+bytes-mod (suc k) v =
+    let split : v % (256 ^ k * 256) ≡ v / 256 % 256 ^ k * 256 + v % 256 = mod-mul v (power-positive k) (lit< tt) in
+    let power : 256 ^ suc k ≡ 256 ^ k * 256 = omega arith in
+    let whole : v % 256 ^ suc k ≡ v / 256 % 256 ^ k * 256 + v % 256 = ap (λ (m : ℕ). v % m) power ∙ split in
+    let byte : v % 256 < 256 = omega arith in
+    let parts = head-tail (v % 256 ^ suc k) (v / 256 % 256 ^ k) (v % 256) whole byte in
+    rw (parts .0, parts .1, bytes-mod k (v / 256))
+
 -- Parts of bytes.
 
 pub bytes-take : (n : ℕ) (s : List ℕ) → Bytes s → Bytes (take n s)
@@ -79,25 +98,6 @@ field-empty s at = go (leb (at + zero) (length s))
     go : (b : Bool) → cond b (value (take zero (drop at s))) 0 ≡ 0
     go true = refl
     go false = refl
-
-power-positive : (k : ℕ) → 0 < 256 ^ k
-power-positive zero = lit< tt
-power-positive (suc k) = let h : 0 < 256 ^ k = power-positive k in omega arith
-
--- k bytes hold a number modulo 256 ^ k
-
-head-tail : (x q r : ℕ) → x ≡ q * 256 + r → r < 256 → (x % 256 ≡ r) × (x / 256 ≡ q)
-head-tail x q r e h = (omega arith, omega arith)
-
-pub bytes-mod : (k v : ℕ) → bytesOf k (v % 256 ^ k) ≡ bytesOf k v
-bytes-mod zero v = refl
-bytes-mod (suc k) v =
-    let split : v % (256 ^ k * 256) ≡ v / 256 % 256 ^ k * 256 + v % 256 = mod-mul v (power-positive k) (lit< tt) in
-    let power : 256 ^ suc k ≡ 256 ^ k * 256 = omega arith in
-    let whole : v % 256 ^ suc k ≡ v / 256 % 256 ^ k * 256 + v % 256 = ap (λ (m : ℕ). v % m) power ∙ split in
-    let byte : v % 256 < 256 = omega arith in
-    let parts = head-tail (v % 256 ^ suc k) (v / 256 % 256 ^ k) (v % 256) whole byte in
-    rw (parts .0, parts .1, bytes-mod k (v / 256))
 
 pub field-drop : (k : ℕ) (s : List ℕ) (d at : ℕ) → fieldAt k (drop d s) at ≡ fieldAt k s (d + at)
 field-drop zero s d at = field-empty (drop d s) at ∙ sym (field-empty s (d + at))

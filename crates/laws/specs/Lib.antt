@@ -1,4 +1,4 @@
--- Theorems about the definitions of `model` alone, in the words in which code comes to them. specs/Lib.antt of `model` has the definitions.
+-- Theorems about the definitions of `model` alone, some of them in the form in which code comes to them. specs/Lib.antt of `model` has the definitions.
 -- First laws of the words: tests, sorted tables, sets, trees, rows by number, questions.
 pub mod Tests
 pub mod Sorted

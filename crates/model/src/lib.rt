@@ -99,6 +99,14 @@ impl Answer {
 impl Layout {
     // The bytes of the header.
     pub const HEADER: usize = 36;
+    // Where the header counts the rows in use of each table.
+    pub const SUBJECTS_USED: usize = 0;
+
+    pub const GRANTS_USED: usize = 8;
+
+    pub const LINES_USED: usize = 16;
+
+    pub const ITEMS_USED: usize = 24;
     // The bytes of the shortest and of the longest image.
     pub const SHORTEST: usize = 36;
 

@@ -7,7 +7,7 @@ use edits::remove_row;
 use fields::put_field;
 use std::num::wrapping_add_u32;
 
-// The rows from at on move up, up to the end of those in use, and the row stands at at. The row behind the end is free: only rows in use move.
+// A row put in at a byte: the rows in use from there to their end move up into the free row behind them, and no byte further on is touched.
 pub fn add_row(image: &mut [u8], counter: usize, used: u32, at: usize, end: usize, row: &[u8])
     ensures { λ _. ⌜ now (image .exit) ≡ rowAdded (now (image .entry)) counter used at end (now (row .entry)) ⌝ }
 {
@@ -19,7 +19,7 @@ pub fn add_row(image: &mut [u8], counter: usize, used: u32, at: usize, end: usiz
     put_field(image, counter, wrapping_add_u32(used, 1));
 }
 
-// The rows behind the one at at close up, and the row that this frees at the end is zero.
+// The row at a byte taken out: the rows in use behind it close up, and the row that this frees at their end is left zero.
 pub fn take_row(image: &mut [u8], counter: usize, used: u32, at: usize, end: usize, size: usize)
     ensures { λ _. ⌜ now (image .exit) ≡ rowTaken (now (image .entry)) counter used at end size ⌝ }
 {

@@ -9,7 +9,7 @@ use Rattle.spots.specs.declared.Spot.{Spot}
 use Rattle.spots.specs.declared.Spot.the-variants.{Over, New, Refused}
 use Rattle.moves.specs.Moves.{rowAdded, rowTaken}
 
--- the bytes of the counts in the header
+-- the bytes of the counts in the header: its fields 0, 2, 4 and 6
 abbrev pub subjectsCounter : ℕ
 subjectsCounter = 0
 

@@ -22,15 +22,6 @@ use writer::put_item;
 use writer::put_line;
 use writer::put_subject;
 
-// Where the header counts the rows in use.
-const SUBJECTS: usize = 0;
-
-const GRANTS: usize = 8;
-
-const LINES: usize = 16;
-
-const ITEMS: usize = 24;
-
 pub fn add_subject(image: &mut [u8], layout: Layout, row: SubjectRow)
     ensures { λ _. ⌜ now (image .exit) ≡ withRow (subjectFormat (widthOf layout)) subjectsCounter (layout .subjects) (layout .subjects .used) row (now (image .entry)) ⌝ }
 {
@@ -38,7 +29,7 @@ pub fn add_subject(image: &mut [u8], layout: Layout, row: SubjectRow)
     let mut bytes = [0; SubjectRow::SIZE];
     put_subject(&mut bytes, layout, 0, row);
     let end = subject_place(layout, table.used);
-    add_row(image, SUBJECTS, table.used, end, end, &bytes);
+    add_row(image, Layout::SUBJECTS_USED, table.used, end, end, &bytes);
 }
 
 pub fn add_item(image: &mut [u8], layout: Layout, row: ItemRow)
@@ -48,7 +39,7 @@ pub fn add_item(image: &mut [u8], layout: Layout, row: ItemRow)
     let mut bytes = [0; ItemRow::SIZE];
     put_item(&mut bytes, layout, 0, row);
     let end = item_place(layout, table.used);
-    add_row(image, ITEMS, table.used, end, end, &bytes);
+    add_row(image, Layout::ITEMS_USED, table.used, end, end, &bytes);
 }
 
 // An item's row anew. 0 is no item.
@@ -70,7 +61,7 @@ pub fn add_grant(image: &mut [u8], layout: Layout, n: u32, row: GrantRow)
     put_grant(&mut bytes, layout, 0, row);
     let at = grant_place(layout, n);
     let end = grant_place(layout, table.used);
-    add_row(image, GRANTS, table.used, at, end, &bytes);
+    add_row(image, Layout::GRANTS_USED, table.used, at, end, &bytes);
 }
 
 pub fn take_grant(image: &mut [u8], layout: Layout, n: u32)
@@ -79,7 +70,14 @@ pub fn take_grant(image: &mut [u8], layout: Layout, n: u32)
     let table = layout.grants;
     let at = grant_place(layout, n);
     let end = grant_place(layout, table.used);
-    take_row(image, GRANTS, table.used, at, end, grant_size(layout));
+    take_row(
+        image,
+        Layout::GRANTS_USED,
+        table.used,
+        at,
+        end,
+        grant_size(layout),
+    );
 }
 
 pub fn add_line(image: &mut [u8], layout: Layout, n: u32, row: LineRow)
@@ -90,7 +88,7 @@ pub fn add_line(image: &mut [u8], layout: Layout, n: u32, row: LineRow)
     put_line(&mut bytes, layout, 0, row);
     let at = line_place(layout, n);
     let end = line_place(layout, table.used);
-    add_row(image, LINES, table.used, at, end, &bytes);
+    add_row(image, Layout::LINES_USED, table.used, at, end, &bytes);
 }
 
 pub fn take_line(image: &mut [u8], layout: Layout, n: u32)
@@ -99,5 +97,12 @@ pub fn take_line(image: &mut [u8], layout: Layout, n: u32)
     let table = layout.lines;
     let at = line_place(layout, n);
     let end = line_place(layout, table.used);
-    take_row(image, LINES, table.used, at, end, line_size(layout));
+    take_row(
+        image,
+        Layout::LINES_USED,
+        table.used,
+        at,
+        end,
+        line_size(layout),
+    );
 }
