@@ -11,8 +11,7 @@ use Rattle.model.specs.declared.GrantRow.{GrantRow}
 use Rattle.model.specs.Image.{layoutOf, tablesBy, tables, widthOf, grantFormat, grantKey, grantRow, noGrant, encode}
 use Rattle.model.specs.Calls.{withGrants, after}
 use Rattle.model.specs.Calls.Change.{setGrant, removeGrant}
-use Rattle.model.specs.Questions.{questions, firstNo, answer, act}
-use Rattle.model.specs.Sequences.{Accepted}
+use Rattle.model.specs.Questions.{questions, firstNo, answer, Accepted, act}
 use Rattle.laws.specs.WellFormed.{Passed}
 use Rattle.laws.specs.Back.{tables-well-formed}
 use Rattle.laws.specs.Acts.{was-passed, was-accepted, leaves, slice-bytes}

@@ -15,8 +15,7 @@ use Rattle.model.specs.declared.ItemRow.{ItemRow}
 use Rattle.model.specs.Image.{layoutOf, tablesBy, tables, size, rowsIn, itemFormat, itemRow, itemIn, encode}
 use Rattle.model.specs.Calls.{withItems, withList, withOwner, after, made}
 use Rattle.model.specs.Calls.Change.{createItem, bind, handOver}
-use Rattle.model.specs.Questions.{firstNo, questions, answer, act}
-use Rattle.model.specs.Sequences.{Accepted}
+use Rattle.model.specs.Questions.{firstNo, questions, answer, Accepted, act}
 use Rattle.laws.specs.WellFormed.{Passed}
 use Rattle.laws.specs.Answers.{passed-first}
 use Rattle.laws.specs.Rows.{rows-count}

@@ -14,8 +14,7 @@ use Rattle.model.specs.WhoAndWhat.{_∩_}
 use Rattle.model.specs.Image.{Tables, layoutOf, tablesBy, tables, widthOf, subjectFormat, subjectRow, privilegesIn, encode}
 use Rattle.model.specs.Calls.{stored, withSubjects, after, made}
 use Rattle.model.specs.Calls.Change.{defineSubject}
-use Rattle.model.specs.Questions.{questions, answer, act}
-use Rattle.model.specs.Sequences.{Accepted}
+use Rattle.model.specs.Questions.{questions, answer, Accepted, act}
 use Rattle.laws.specs.WellFormed.{Passed}
 use Rattle.laws.specs.Rows.{rows-count}
 use Rattle.laws.specs.Acts.{was-passed, was-accepted, leaves, slice-bytes}

@@ -13,11 +13,10 @@ use lib.ListN.{getD}
 use Rattle.model.specs.declared.Answer.{Answer}
 use Rattle.model.specs.declared.Layout.{Layout}
 use Rattle.model.specs.Lists.{Bytes}
-use Rattle.model.specs.Image.{layoutOf, tablesBy, tables, encode}
-use Rattle.model.specs.Calls.{Change, after, made}
+use Rattle.model.specs.Image.{Tables, layoutOf, tablesBy, tables, encode}
+use Rattle.model.specs.Calls.{Change, Handed, after, made}
 use Rattle.model.specs.Calls.Change.{defineSubject, setGrant, removeGrant, setLine, removeLine, createItem, bind, handOver}
-use Rattle.model.specs.Questions.{imageQuestions, questions, firstNo, answer, answered, check, act}
-use Rattle.model.specs.Sequences.{Accepted, Handed}
+use Rattle.model.specs.Questions.{imageQuestions, questions, firstNo, answer, answered, check, Accepted, act}
 use Rattle.laws.specs.Tests.{All-left, All-right}
 use Rattle.laws.specs.WellFormed.{WellFormed, Passed}
 use Rattle.laws.specs.Answers.{numbered, first-passed, passed-first}
@@ -82,6 +81,19 @@ module _ (img : List ℕ) (c : Change) (handed : Handed c) (accepted : Accepted 
           let done : act img c .answer .number ≡ 0 = eqb-true (act img c .answer .number) 0 e in
           rw (done-leaves img c done) (encode-accepted (after (tables img) c) (done-well-formed done))
       go false e = rw (refused-keeps img c (eqb-false (act img c .answer .number) 0 e)) accepted
+
+  -- what held of the tables, and holds of those by the rule where every question was answered yes, holds of the tables afterwards
+  pub act-keeps : (P : Tables → Type 0)
+      → P (tables img)
+      → (WellFormed (tables img) → Passed (questions (tables img) c) → P (after (tables img) c))
+      → P (tables (act img c .image))
+  act-keeps P before by-rule = go (eqb (act img c .answer .number) 0) refl
+    where
+      go : (b : Bool) → eqb (act img c .answer .number) 0 ≡ b → P (tables (act img c .image))
+      go true e =
+          let done : act img c .answer .number ≡ 0 = eqb-true (act img c .answer .number) 0 e in
+          rw (done-tables done) (by-rule (tables-well-formed img accepted) (done-passed img c done))
+      go false e = rw (refused-keeps img c (eqb-false (act img c .answer .number) 0 e)) before
 
 -- A call that writes, return by return, as code comes to them. First the answer a: refused by the image, by one of the call's own questions, or done. n is
 -- what the check said, k what the call's questions said.

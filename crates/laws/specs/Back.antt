@@ -10,8 +10,7 @@ use lib.Seq.{drop-length}
 use Rattle.model.specs.declared.Table.{Table}
 use Rattle.model.specs.Lists.{All}
 use Rattle.model.specs.Image.{Format, Block, widthOf, layoutOf, tablesBy, tables, rowsIn, capacity, subjectFormat, grantFormat, lineFormat, itemFormat, headerWidths, headerSize, fieldsAt, rowBytes, headerOf, bodyOf, blocks, encode, tableLies}
-use Rattle.model.specs.Questions.{imageQuestions}
-use Rattle.model.specs.Sequences.{Accepted}
+use Rattle.model.specs.Questions.{imageQuestions, Accepted}
 use Rattle.laws.specs.WellFormed.{WellFormed, Passed, Fits, extents}
 use Rattle.laws.specs.Fields.{fields-back, bytes-drop}
 use Rattle.laws.specs.Rows.{Lawful, rows-count, rows-fit, subject-lawful, grant-lawful, line-lawful, item-lawful}

@@ -57,6 +57,14 @@ order (x ∷ xs) (y ∷ ys) = go (lt-eq-gt x y) (order xs ys)
 pub same-eq : (k l : List ℕ) → same k l ≡ true → k ≡ l
 same-eq k l e = elim (order k l) [ lower a b c ↦ cc | equal a b c ↦ a | higher a b c ↦ cc ]
 
+pub same-or-not : (k l : List ℕ) → (k ≡ l) ⊎ (k ≢ l)
+same-or-not k l =
+    elim (order k l) [
+      | lower a b c ↦ inr (λ e. false≢true (sym c ∙ (rw e (same-self l))))
+      | equal a b c ↦ inl a
+      | higher a b c ↦ inr (λ e. false≢true (sym c ∙ (rw e (same-self l))))
+    ]
+
 pub before-not-after : (k l : List ℕ) → before k l ≡ true → before l k ≡ false
 before-not-after k l e = elim (order k l) [ lower a b c ↦ b | equal a b c ↦ cc | higher a b c ↦ cc ]
 

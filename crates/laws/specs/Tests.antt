@@ -173,6 +173,11 @@ module _ {A : Type 0} where
   All-both P Q [] p q = tt
   All-both P Q (x ∷ xs) p q = ((p .0, q .0), All-both P Q xs (p .1) (q .1))
 
+  -- of each row: what all rows have, it has
+  pub All-self : {B : Type 0} (P : B → A → Type 0) (xs : List A) → All (λ x. (b : B) → All (P b) xs → P b x) xs
+  All-self P [] = tt
+  All-self P (x ∷ xs) = (λ b a. a .0, All-map (λ y f b a. f b (a .1)) xs (All-self P xs))
+
   module _ (P : A → Type 0) where
     pub All-append : (xs ys : List A) → All P xs → All P ys → All P (xs ++ ys)
     All-append [] ys p q = q

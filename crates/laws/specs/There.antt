@@ -11,8 +11,7 @@ use lib.Seq.{drop-at, drop-drop}
 use Rattle.model.specs.declared.Layout.{Layout}
 use Rattle.model.specs.Lists.{All, Bytes, allOf}
 use Rattle.model.specs.Image.{Tables, Format, Block, size, widthIn, layoutOf, tablesBy, tables, subjectFormat, grantFormat, lineFormat, itemFormat, headerWidths, headerSize, fieldsAt, rowBytes, headerOf, bodyOf, blocks, blockOf, encode, layoutRules, unusedRules}
-use Rattle.model.specs.Questions.{imageQuestions, check}
-use Rattle.model.specs.Sequences.{Accepted}
+use Rattle.model.specs.Questions.{imageQuestions, check, Accepted}
 use Rattle.laws.specs.Tests.{_and_, true-T, and-i, all-yes, All-append}
 use Rattle.laws.specs.WellFormed.{WellFormed, Passed, Fit, extents}
 use Rattle.laws.specs.Fields.{fields-there, row-length, row-bytes}

@@ -1,14 +1,14 @@
 -- Document 01, "The calls": what each answers and what it leaves, where it is not refused. Numbers are those of the call's arguments, in its order.
 use mathlib.Core.Bool.{Bool, _&&_, not, cond}
 use mathlib.Core.List.{List, [], _∷_, _++_}
-use Prim.Native.Nat.{ℕ, zero, suc}
+use Prim.Native.Nat.{ℕ, zero, suc, _<_, _^_}
 use lib.ListN.{length, set}
 use lib.Dec.{eqb, ltb}
 use Rattle.model.specs.declared.SubjectRow.{SubjectRow}
 use Rattle.model.specs.declared.GrantRow.{GrantRow}
 use Rattle.model.specs.declared.LineRow.{LineRow}
 use Rattle.model.specs.declared.ItemRow.{ItemRow}
-use Rattle.model.specs.Lists.{select}
+use Rattle.model.specs.Lists.{select, All}
 use Rattle.model.specs.Sorted.{put, cut}
 use Rattle.model.specs.WhoAndWhat.{custodian, editList, has, _∩_}
 use Rattle.model.specs.Image.{Tables, subjectRow, grantRow, lineRow, itemRow, grantKey, lineKey, privilegesIn, itemIn, subjectUsed}
@@ -31,6 +31,42 @@ pub data Change : Type 0 where
   createItem : (caller role list flags : ℕ) → Change
   bind : (caller item list : ℕ) → Change
   handOver : (caller item newOwner : ℕ) → Change
+
+-- who makes the call
+abbrev pub callerOf : Change → ℕ
+callerOf (defineSubject c r p v) = c
+callerOf (setGrant c s r d v) = c
+callerOf (removeGrant c s r) = c
+callerOf (setLine c r a k s v) = c
+callerOf (removeLine c r a k s) = c
+callerOf (createItem c r a f) = c
+callerOf (bind c i a) = c
+callerOf (handOver c i o) = c
+
+-- the numbers and the privilege sets that a call is handed
+abbrev pub numbersOf : Change → List ℕ
+numbersOf (defineSubject c r p v) = c ∷ r ∷ p ∷ []
+numbersOf (setGrant c s r d v) = c ∷ s ∷ r ∷ d ∷ []
+numbersOf (removeGrant c s r) = c ∷ s ∷ r ∷ []
+numbersOf (setLine c r a k s v) = c ∷ r ∷ a ∷ k ∷ s ∷ []
+numbersOf (removeLine c r a k s) = c ∷ r ∷ a ∷ k ∷ s ∷ []
+numbersOf (createItem c r a f) = c ∷ r ∷ a ∷ f ∷ []
+numbersOf (bind c i a) = c ∷ i ∷ a ∷ []
+numbersOf (handOver c i o) = c ∷ i ∷ o ∷ []
+
+abbrev pub setsOf : Change → List ℕ
+setsOf (defineSubject c r p v) = v ∷ []
+setsOf (setGrant c s r d v) = v ∷ []
+setsOf (removeGrant c s r) = []
+setsOf (setLine c r a k s v) = v ∷ []
+setsOf (removeLine c r a k s) = []
+setsOf (createItem c r a f) = []
+setsOf (bind c i a) = []
+setsOf (handOver c i o) = []
+
+-- Every number handed over is one of 32 bits.
+abbrev pub Handed : Change → Type 0
+Handed c = All (λ v. v < 2 ^ 32) (numbersOf c) × All (λ v. v < 2 ^ 32) (setsOf c)
 
 -- Lines of a list: its rows, and the number of rows that stand before them in the table.
 abbrev pub rowsOf : ℕ → List LineRow → List LineRow

@@ -11,7 +11,7 @@ use lib.Dec.{T, eqb, ltb, leb}
 use Rattle.model.specs.declared.Answer.{Answer}
 use Rattle.model.specs.declared.GrantRow.{GrantRow}
 use Rattle.model.specs.declared.Layout.{Layout}
-use Rattle.model.specs.Lists.{allOf, someNumbered, ifThere, isThere}
+use Rattle.model.specs.Lists.{allOf, someNumbered, ifThere, isThere, Bytes}
 use Rattle.model.specs.Sorted.{find}
 use Rattle.model.specs.Tree.{inTree}
 use Rattle.model.specs.WhoAndWhat.{custodian, createItems, defineSubjects, editList, has}
@@ -156,6 +156,11 @@ answered n r = answer n (cond (eqb n 0) r 0)
 -- Check an image.
 unfoldable pub check : List ℕ → ℕ
 check img = firstNo (imageQuestions img)
+
+-- An accepted image: bytes for which questions 1 to 7 are all answered yes.
+pub record Accepted (img : List ℕ) : Type 0 where
+  pub bytes : Bytes img
+  pub checked : check img ≡ 0
 
 -- What a call that asks answers.
 unfoldable pub ask : List ℕ → Ask → Answer

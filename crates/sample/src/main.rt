@@ -1,5 +1,5 @@
 // Runs the calls on the sample workshop of document 01 and prints what they answer: the twelve sets, the check of four lengths, the other calls that ask,
-// and the calls that change the tables.
+// the calls that change the tables, and a sequence of them.
 use asking::check_image;
 use asking::count_lines;
 use asking::find_editor;
@@ -15,6 +15,7 @@ use printing::print_number;
 
 mod changes;
 mod printing;
+mod strangers;
 mod workshop;
 
 fn main() {
@@ -23,6 +24,7 @@ fn main() {
     print_checks();
     print_others(&image);
     changes::print_changes();
+    strangers::print_strangers();
 }
 
 fn print_sets(image: &[u8]) {

@@ -16,7 +16,7 @@ use Rattle.model.specs.Lists.{All, isThere}
 use Rattle.model.specs.Sorted.{find, place, put, cut}
 use Rattle.model.specs.Image.{Tables, Format, Block, widthOf, layoutOf, tablesBy, tables, rowsIn, subjectFormat, grantFormat, lineFormat, itemFormat, noItem, itemUsed, blocks, blockOf, encode}
 use Rattle.model.specs.Calls.{withSubjects, withGrants, withLines, withItems, setItem}
-use Rattle.model.specs.Sequences.{Accepted}
+use Rattle.model.specs.Questions.{Accepted}
 use Rattle.laws.specs.WellFormed.{WellFormed}
 use Rattle.laws.specs.Rows.{Lawful, rows-count, subject-lawful, grant-lawful, line-lawful, item-lawful}
 use Rattle.laws.specs.Sorted.{place-le, found-place, put-new, put-over, cut-found}

@@ -3,22 +3,16 @@ use mathlib.Core.List.{List, [], _∷_}
 use mathlib.Core.Logic.{_≢_}
 use mathlib.Core.Option.{some}
 use mathlib.Core.Path.{_≡_}
-use Prim.Native.Nat.{ℕ, _<_, _^_}
+use Prim.Native.Nat.{ℕ}
 use lib.Dec.{T}
 use Rattle.model.specs.declared.GrantRow.{GrantRow}
-use Rattle.model.specs.Lists.{All, Bytes}
+use Rattle.model.specs.Lists.{All}
 use Rattle.model.specs.WhoAndWhat.{custodian, editList, has}
 use Rattle.model.specs.Image.{Tables, tables, itemIn, subjectUsed, itemUsed}
 use Rattle.model.specs.Permission.{linesPart, grantOf, permissionSet}
-use Rattle.model.specs.Calls.{Ask, Change}
+use Rattle.model.specs.Calls.{Ask, Change, callerOf, Handed}
 use Rattle.model.specs.Calls.Ask.{permissionSetOf}
-use Rattle.model.specs.Calls.Change.{defineSubject, setGrant, removeGrant, setLine, removeLine, createItem, bind, handOver}
-use Rattle.model.specs.Questions.{check, ask, act}
-
--- An accepted image: bytes for which questions 1 to 7 are all answered yes.
-pub record Accepted (img : List ℕ) : Type 0 where
-  pub bytes : Bytes img
-  pub checked : check img ≡ 0
+use Rattle.model.specs.Questions.{Accepted, ask, act}
 
 -- The calls that never write the image.
 pub data Reading : Type 0 where
@@ -43,41 +37,7 @@ writing [] = []
 writing (changes c ∷ steps) = c ∷ writing steps
 writing (reads q ∷ steps) = writing steps
 
-abbrev pub callerOf : Change → ℕ
-callerOf (defineSubject c r p v) = c
-callerOf (setGrant c s r d v) = c
-callerOf (removeGrant c s r) = c
-callerOf (setLine c r a k s v) = c
-callerOf (removeLine c r a k s) = c
-callerOf (createItem c r a f) = c
-callerOf (bind c i a) = c
-callerOf (handOver c i o) = c
-
--- the numbers and the privilege sets that a call is handed
-abbrev pub numbersOf : Change → List ℕ
-numbersOf (defineSubject c r p v) = c ∷ r ∷ p ∷ []
-numbersOf (setGrant c s r d v) = c ∷ s ∷ r ∷ d ∷ []
-numbersOf (removeGrant c s r) = c ∷ s ∷ r ∷ []
-numbersOf (setLine c r a k s v) = c ∷ r ∷ a ∷ k ∷ s ∷ []
-numbersOf (removeLine c r a k s) = c ∷ r ∷ a ∷ k ∷ s ∷ []
-numbersOf (createItem c r a f) = c ∷ r ∷ a ∷ f ∷ []
-numbersOf (bind c i a) = c ∷ i ∷ a ∷ []
-numbersOf (handOver c i o) = c ∷ i ∷ o ∷ []
-
-abbrev pub setsOf : Change → List ℕ
-setsOf (defineSubject c r p v) = v ∷ []
-setsOf (setGrant c s r d v) = v ∷ []
-setsOf (removeGrant c s r) = []
-setsOf (setLine c r a k s v) = v ∷ []
-setsOf (removeLine c r a k s) = []
-setsOf (createItem c r a f) = []
-setsOf (bind c i a) = []
-setsOf (handOver c i o) = []
-
--- Every number handed over is one of 32 bits.
-abbrev pub Handed : Change → Type 0
-Handed c = All (λ v. v < 2 ^ 32) (numbersOf c) × All (λ v. v < 2 ^ 32) (setsOf c)
-
+-- Who is who for a document. t are the tables at the stop.
 module _ (t : Tables) (document : ℕ) where
   -- The items that are followed from: the document.
   pub data Start : ℕ → Type 0 where
@@ -101,7 +61,7 @@ module _ (t : Tables) (document : ℕ) where
     pub outside : ¬ Insider s
     pub holds-none : All (λ g. g .receiver .0 ≡ s → ¬ Insider (g .grantor .0)) (t .grants)
 
--- The asker claims no role, or one granted to it by then whose grantor makes none of the added calls.
+-- The asker claims no role, or one granted to it at the stop whose grantor makes none of the added calls.
 pub data Claim (t : Tables) (asker : ℕ) (added : List Change) : ℕ → Type 0 where
   no-role : Claim t asker added 0
   granted : {r : ℕ} (g : GrantRow) → grantOf t asker r ≡ some g → All (λ c. callerOf c ≢ g .grantor .0) added → Claim t asker added r
@@ -120,7 +80,7 @@ pub record Unchanged (stop later : List ℕ) (asker role document : ℕ) : Type 
   pub answer-later : ask later (permissionSetOf asker role document) ≡ record { number = 0; result = permissionSet (tables stop) asker role document }
 
 -- Demand 3: one claim about both sequences as wholes.
-pub Demand3 : Type 0
+abbrev pub Demand3 : Type 0
 Demand3 =
     (start : List ℕ)
     → Accepted start

@@ -1,0 +1,152 @@
+-- Who is an insider of a document, by computation: a test for each clause, which every insider by that clause passes. So whoever passes none is no insider.
+use mathlib.Core.Bool.{Bool, true, false, _&&_, _||_, not, cond}
+use mathlib.Core.List.{List, [], _∷_}
+use mathlib.Core.Logic.{_⊎_, inl, inr, _≢_}
+use mathlib.Core.Path.{_≡_, refl}
+use Prim.Native.Nat.{ℕ}
+use borrow.Author.Tests.{eq-eqb}
+use lib.Dec.{T, eqb, eqb→eq, eqb-refl, T-not}
+use Rattle.model.specs.declared.GrantRow.{GrantRow}
+use Rattle.model.specs.Lists.{All, every}
+use Rattle.model.specs.WhoAndWhat.{custodian, editList, has}
+use Rattle.model.specs.Image.{Tables, privilegesIn, itemIn}
+use Rattle.model.specs.Permission.{linesPart}
+use Rattle.laws.specs.Tests.{true-T, and-i, and-l, and-r, or-l, or-r, or-cases, every-All, All-map, All-left, All-right}
+use Rattle.strangers.specs.Sequences.{Followed, Insider}
+use Rattle.strangers.specs.Sequences.Start.{the-document}
+use Rattle.strangers.specs.Sequences.Followed.{its-list, list-of}
+use Rattle.strangers.specs.Sequences.Insider.{the-custodian, owns-document, owns-list, may-edit}
+use Rattle.strangers.specs.Walk.{among, listOf, followedLists, followed-walked}
+use Rattle.claim_cases.specs.Without.{Clause, same-clause, clausesOfWay, clausesOfEditor, clausesOf, InsiderBut}
+
+-- a test that counts as passed where something else is the case
+abbrev pub orIf : {P : Type 0} → Dec P → Bool → Bool
+orIf (yes p) b = true
+orIf (no d) b = b
+
+pub or-if-is : {P : Type 0} (d : Dec P) (b : Bool) → T (orIf d b) → ¬ P → T b
+or-if-is (yes p) b t n = absurd (n p)
+or-if-is (no d) b t n = t
+
+pub unequal : (a b : ℕ) → T (not (eqb a b)) → a ≢ b
+unequal a b p e = T-not (eqb a b) p (true-T (eqb a b) (eq-eqb a b e))
+
+-- some number of a list passes a test
+abbrev someOf : (ℕ → Bool) → List ℕ → Bool
+someOf test [] = false
+someOf test (a ∷ rest) = test a || someOf test rest
+
+some-of : (test : ℕ → Bool) (xs : List ℕ) (a : ℕ) → T (among a xs) → T (test a) → T (someOf test xs)
+some-of test [] a h p = h
+some-of test (x ∷ xs) a h p = go (or-cases (eqb a x) (among a xs) h) (some-of test xs a)
+  where
+    go : T (eqb a x) ⊎ T (among a xs) → (T (among a xs) → T (test a) → T (someOf test xs)) → T (test x || someOf test xs)
+    go (inl e) ih = or-l (test x) (someOf test xs) (rw (eqb→eq a x e) at p)
+    go (inr k) ih = or-r (test x) (someOf test xs) (ih k p)
+
+module _ (left-out : Clause) (t : Tables) (document : ℕ) where
+  -- the followed lists: by the walk, or none where the document's list is left out, or that list alone where the way does not go on
+  abbrev onWay : Dec (left-out ≡ Clause.list-of-document) → Dec (left-out ≡ Clause.lists-of-lists) → List ℕ
+  onWay (yes e) (yes f) = []
+  onWay (yes e) (no f) = []
+  onWay (no d) (yes e) = listOf t document ∷ []
+  onWay (no d) (no e) = followedLists t document
+
+  abbrev lists : List ℕ
+  lists = onWay (same-clause left-out Clause.list-of-document) (same-clause left-out Clause.lists-of-lists)
+
+  -- The subject owns one of them, and the lines allow it to edit one.
+  abbrev ownsList : ℕ → Bool
+  ownsList s = someOf (λ a. eqb s (itemIn (t .items) a .owner .0)) lists
+
+  abbrev editsSome : ℕ → Bool
+  editsSome s = someOf (λ a. has editList (linesPart t s a)) lists
+
+  -- where editors without the operation are left out, an editor holds it
+  abbrev countsAsEditor : Dec (left-out ≡ Clause.editor-without-operation) → ℕ → Bool
+  countsAsEditor (yes e) s = has editList (privilegesIn (t .subjects) s)
+  countsAsEditor (no d) s = true
+
+  abbrev editsList : ℕ → Bool
+  editsList s = countsAsEditor (same-clause left-out Clause.editor-without-operation) s && editsSome s
+
+  -- It is no insider by any clause but the one left out.
+  abbrev pub apart : ℕ → Bool
+  apart s =
+      orIf (same-clause left-out Clause.custodian-inside) (not (eqb s custodian))
+      && orIf (same-clause left-out Clause.document-owner-inside) (not (eqb s (itemIn (t .items) document .owner .0)))
+      && orIf (same-clause left-out Clause.list-owner-inside) (not (ownsList s))
+      && orIf (same-clause left-out Clause.editor-inside) (not (editsList s))
+
+  -- Nor are the grantors of the roles that it holds.
+  abbrev pub rolesApart : ℕ → Bool
+  rolesApart s = every (λ g. not (eqb (g .receiver .0) s) || apart (g .grantor .0)) (t .grants)
+
+  abbrev Counted : List Clause → Type 0
+  Counted = All (λ c. left-out ≢ c)
+
+  -- every way begins with the document's list
+  begins : {a : ℕ} (f : Followed t document a) → Counted (clausesOfWay f) → left-out ≢ Clause.list-of-document
+  begins (its-list d some-list) counted = counted .0
+  begins (list-of f some-list) counted = begins f (counted .1)
+
+  followed-in : {a : ℕ} (f : Followed t document a) → Counted (clausesOfWay f) → T (among a lists)
+  followed-in f counted = go f counted (same-clause left-out Clause.list-of-document) (same-clause left-out Clause.lists-of-lists)
+    where
+      go : {a : ℕ} (f : Followed t document a)
+          → Counted (clausesOfWay f)
+          → (d : Dec (left-out ≡ Clause.list-of-document)) (e : Dec (left-out ≡ Clause.lists-of-lists))
+          → T (among a (onWay d e))
+      go f counted (yes d) e = absurd (begins f counted d)
+      go (its-list the-document some-list) counted (no d) (yes e) = search (or-l, eqb-refl)
+      go (list-of f some-list) counted (no d) (yes e) = absurd (counted .0 e)
+      go {a} f counted (no d) (no e) = followed-walked t document a f
+
+  editor-counts : (s : ℕ) → Counted (clausesOfEditor t s) → T (countsAsEditor (same-clause left-out Clause.editor-without-operation) s)
+  editor-counts s counted = go (has editList (privilegesIn (t .subjects) s)) refl counted (same-clause left-out Clause.editor-without-operation)
+    where
+      go : (b : Bool)
+          → has editList (privilegesIn (t .subjects) s) ≡ b
+          → Counted (cond b [] (Clause.editor-without-operation ∷ []))
+          → (d : Dec (left-out ≡ Clause.editor-without-operation))
+          → T (countsAsEditor d s)
+      go true h counted (yes e) = true-T (has editList (privilegesIn (t .subjects) s)) h
+      go false h counted (yes e) = absurd (counted .0 e)
+      go b h counted (no d) = tt
+
+  fails : (this : Clause) (test : Bool) → T (orIf (same-clause left-out this) (not test)) → left-out ≢ this → ¬ T test
+  fails this test p d h = T-not test (or-if-is (same-clause left-out this) (not test) p d) h
+
+  -- an insider fails the test of its clause, where that one is asked
+  inside-fails : {s : ℕ} → T (apart s) → (i : Insider t document s) → ¬ Counted (clausesOf i)
+  inside-fails p the-custodian c = fails Clause.custodian-inside (eqb 0 custodian) (search (and-l, and-r)) (c .0) tt
+  inside-fails p (owns-document the-document) c =
+      let owner : ℕ = itemIn (t .items) document .owner .0 in
+      fails Clause.document-owner-inside (eqb owner owner) (search (and-l, and-r)) (c .0) (eqb-refl owner)
+  inside-fails p (owns-list {a} f) c =
+      let owner : ℕ = itemIn (t .items) a .owner .0 in
+      fails Clause.list-owner-inside (ownsList owner) (search (and-l, and-r)) (c .0)
+      (some-of (λ b. eqb owner (itemIn (t .items) b .owner .0)) lists a (followed-in f (c .1)) (eqb-refl owner))
+  inside-fails p (may-edit {a} {s} f allowed) c =
+      fails Clause.editor-inside (editsList s) (search (and-l, and-r)) (c .0)
+      (and-i (countsAsEditor (same-clause left-out Clause.editor-without-operation) s) (editsSome s)
+      (editor-counts s (All-left (λ c. left-out ≢ c) (clausesOfEditor t s) (clausesOfWay f) (c .1)))
+      (some-of (λ b. has editList (linesPart t s b)) lists a
+      (followed-in f (All-right (λ c. left-out ≢ c) (clausesOfEditor t s) (clausesOfWay f) (c .1)))
+      allowed))
+
+  pub apart-is : (s : ℕ) → T (apart s) → ¬ InsiderBut left-out t document s
+  apart-is s p i = inside-fails p (i .insider) (i .counts)
+
+  pub roles-apart-is : (s : ℕ) → T (rolesApart s) → All (λ g. g .receiver .0 ≡ s → ¬ InsiderBut left-out t document (g .grantor .0)) (t .grants)
+  roles-apart-is s p = All-map grant (t .grants) (every-All (λ g. not (eqb (g .receiver .0) s) || apart (g .grantor .0)) (t .grants) p)
+    where
+      grant : (g : GrantRow)
+          → T (not (eqb (g .receiver .0) s) || apart (g .grantor .0))
+          → g .receiver .0 ≡ s
+          → ¬ InsiderBut left-out t document (g .grantor .0)
+      grant g h e =
+          elim (or-cases (not (eqb (g .receiver .0) s)) (apart (g .grantor .0)) h) [
+            | inl n ↦ absurd (unequal (g .receiver .0) s n e)
+            | inr a ↦ apart-is (g .grantor .0) a
+          ]

@@ -1,0 +1,90 @@
+-- For each clause of the claim, tables and calls by which the claim without it is false.
+use mathlib.Core.List.{List, [], _∷_}
+use mathlib.Core.Logic.{_≢_}
+use mathlib.Core.Path.{refl}
+use Prim.Native.Nat.{ℕ}
+use Rattle.model.specs.Sorted.{find, put, cut, ascending}
+use Rattle.model.specs.Tree.{climbs, inTree}
+use Rattle.model.specs.WhoAndWhat.{everything, has}
+use Rattle.model.specs.Image.{Tables, subjectRow, grantRow, lineRow, itemRow, itselfKind, groupKind, ownerKind, everyoneKind, fieldAt, layoutOf, rowsIn, tablesBy, blockOf, encode, subjectsHold, itemsHold, linesHold, grantsHold, layoutRules, unusedRules}
+use Rattle.model.specs.Permission.{groupWithin, groupLine, directLine, partOf, operationUnder, objectUnder, permissionUnder}
+use Rattle.model.specs.Calls.{after}
+use Rattle.model.specs.Calls.Change.{defineSubject, setGrant, removeGrant, setLine, createItem, bind}
+use Rattle.model.specs.Questions.{firstNo, imageQuestions, questions, check, act}
+use Rattle.model.specs.Sample.{workshop}
+use Rattle.strangers.specs.Sequences.{Step, run, writing}
+use Rattle.strangers.specs.Sequences.Step.{changes}
+use Rattle.strangers.specs.Walk.{walk}
+use Rattle.claim_cases.specs.Without.{Clause, Without}
+use Rattle.claim_cases.specs.Without.Clause.{nothing, list-of-document, lists-of-lists, custodian-inside, document-owner-inside, list-owner-inside, editor-inside, editor-without-operation, no-role-of-insiders, caller-present, asker-present, document-present, role-granted, grantor-silent}
+use Rattle.claim_cases.specs.Tried.{Trial, proper, coveredBut, changed, refutes}
+
+-- Item 3 is the document; list 1 controls it and itself. 1 may edit list 1 by its own line. 2 owns list 1, whose owner line gives nothing; list 2 would let an owner edit. 3 holds
+-- a role that 1 granted. 4, below 1 like 2, is denied by its own line what the group of 1 may. These four have the privileges 0 to 6. The lines let 5 edit list 1 too, but it
+-- has no privileges of its own.
+unfoldable rivals : Tables
+rivals =
+    record {
+      subjects = subjectRow 0 (everything 4) 0 ∷ subjectRow 0 127 0 ∷ subjectRow 1 127 0 ∷ subjectRow 0 127 0 ∷ subjectRow 1 127 0 ∷ subjectRow 0 0 0 ∷ [];
+      grants = grantRow 3 7 1 1 127 ∷ [];
+      lines =
+          lineRow 1 itselfKind 1 64
+          ∷ lineRow 1 itselfKind 4 0
+          ∷ lineRow 1 itselfKind 5 64
+          ∷ lineRow 1 groupKind 1 64
+          ∷ lineRow 1 ownerKind 0 0
+          ∷ lineRow 2 ownerKind 0 64
+          ∷ [];
+      items = itemRow 2 1 1 ∷ itemRow 0 0 1 ∷ itemRow 0 1 0 ∷ [];
+      room = record { subjects = 7; grants = 2; lines = 7; items = 3 };
+    }
+
+-- A way of three lists: item 4 is the document, list 1 controls it, list 2 controls list 1, list 3 controls list 2. 1 may edit list 2.
+unfoldable threeLists : Tables
+threeLists =
+    record {
+      subjects = subjectRow 0 (everything 4) 0 ∷ subjectRow 0 127 0 ∷ [];
+      grants = [];
+      lines = lineRow 3 itselfKind 1 64 ∷ [];
+      items = itemRow 0 2 1 ∷ itemRow 0 3 1 ∷ itemRow 0 0 1 ∷ itemRow 0 1 0 ∷ [];
+      room = record { subjects = 2; grants = 0; lines = 3; items = 4 };
+    }
+
+-- tables, the added calls; asker, role and document; the set before and after
+abbrev tried : Tables → List Step → ℕ → ℕ → ℕ → ℕ → ℕ → Trial
+tried start calls s r i before later =
+    record { start = start; first = []; second = calls; asker = s; role = r; document = i; set-then = before; set-later = later }
+
+-- c, under role r, lets everyone read what list 1 controls
+abbrev opens : ℕ → ℕ → Step
+opens c r = changes (setLine c r 1 everyoneKind 0 1)
+
+-- Without any one of its clauses the claim is false.
+pub each-is-needed : (left-out : Clause) → left-out ≢ nothing → ¬ Without left-out
+unfolding workshop rivals threeLists proper coveredBut changed find put cut ascending climbs inTree has fieldAt layoutOf rowsIn tablesBy blockOf encode subjectsHold itemsHold linesHold grantsHold layoutRules unusedRules groupWithin groupLine directLine partOf operationUnder objectUnder permissionUnder after firstNo imageQuestions questions check act run writing walk
+each-is-needed nothing d = absurd (d refl)
+-- 1, who may edit the document's list, sets a line of it.
+each-is-needed list-of-document d = refutes list-of-document (tried rivals (opens 1 0 ∷ []) 3 0 3 0 1) tt tt tt
+-- 1, who may edit the list that controls list 1, lets itself edit list 1.
+each-is-needed lists-of-lists d =
+    refutes lists-of-lists (tried threeLists (changes (setLine 1 0 2 itselfKind 1 64) ∷ opens 1 0 ∷ []) 1 0 4 0 1) tt tt tt
+-- The custodian, and the owner, bind an item.
+each-is-needed custodian-inside d = refutes custodian-inside (tried workshop (changes (bind 0 4 1) ∷ []) 2 0 4 0 3) tt tt tt
+each-is-needed document-owner-inside d = refutes document-owner-inside (tried workshop (changes (bind 2 4 1) ∷ []) 2 0 4 0 3) tt tt tt
+-- The owner of list 1 binds it to a list that lets an owner edit.
+each-is-needed list-owner-inside d = refutes list-owner-inside (tried rivals (changes (bind 2 1 2) ∷ opens 2 0 ∷ []) 3 0 3 0 1) tt tt tt
+-- An editor sets a line, and the holder of a role that the editor granted does.
+each-is-needed editor-inside d = refutes editor-inside (tried rivals (opens 1 0 ∷ []) 3 0 3 0 1) tt tt tt
+each-is-needed no-role-of-insiders d = refutes no-role-of-insiders (tried rivals (opens 3 7 ∷ []) 3 0 3 0 1) tt tt tt
+-- 4 lends 5 the operation that it lacks, and 5 sets a line.
+each-is-needed editor-without-operation d =
+    refutes editor-without-operation (tried rivals (changes (setGrant 4 5 9 4 64) ∷ opens 5 9 ∷ []) 3 0 3 0 1) tt tt tt
+-- 4 defines a subject below itself, which the group's line lets edit; that subject sets a line.
+each-is-needed caller-present d =
+    refutes caller-present (tried rivals (changes (defineSubject 4 0 4 127) ∷ opens 6 0 ∷ []) 3 0 3 0 1) tt tt tt
+-- A subject and an item that are not there yet get a row.
+each-is-needed asker-present d = refutes asker-present (tried rivals (changes (defineSubject 4 0 4 127) ∷ []) 6 0 3 0 64) tt tt tt
+each-is-needed document-present d = refutes document-present (tried workshop (changes (createItem 2 0 1 0) ∷ []) 2 0 5 0 3) tt tt tt
+-- A stranger grants the claimed role; its grantor takes it back.
+each-is-needed role-granted d = refutes role-granted (tried workshop (changes (setGrant 2 4 9 2 2) ∷ []) 4 9 3 1 3) tt tt tt
+each-is-needed grantor-silent d = refutes grantor-silent (tried workshop (changes (removeGrant 2 4 7) ∷ []) 4 7 3 3 1) tt tt tt

@@ -1,0 +1,95 @@
+-- With nothing left out, the claim is demand 3: it covers the same, so it holds too.
+use mathlib.Core.Bool.{Bool, true, false, not, cond}
+use mathlib.Core.List.{List, [], _∷_}
+use mathlib.Core.Logic.{_≢_}
+use mathlib.Core.Path.{_≡_}
+use Prim.Native.Nat.{ℕ}
+use lib.Dec.{T}
+use Rattle.model.specs.Lists.{All}
+use Rattle.model.specs.WhoAndWhat.{editList, has}
+use Rattle.model.specs.Image.{Tables, tables, privilegesIn}
+use Rattle.model.specs.Calls.{Change, callerOf}
+use Rattle.laws.specs.Tests.{All-map, All-append}
+use Rattle.strangers.specs.Sequences.{Step, run, writing, Followed, Insider, Stranger, Claim, Covered}
+use Rattle.strangers.specs.Sequences.Followed.{its-list, list-of}
+use Rattle.strangers.specs.Sequences.Insider.{the-custodian, owns-document, owns-list, may-edit}
+use Rattle.strangers.specs.Demand3.{demand-3}
+use Rattle.claim_cases.specs.Without.{Clause, same-clause, clausesOfWay, clausesOfEditor, clausesOf, StrangerBut, ClaimBut, CoveredBut, Without}
+use Rattle.claim_cases.specs.Without.Clause.{nothing, list-of-document, lists-of-lists, custodian-inside, document-owner-inside, list-owner-inside, editor-inside, editor-without-operation, no-role-of-insiders, caller-present, asker-present, document-present, role-granted, grantor-silent}
+use Rattle.claim_cases.specs.Insiders.{orIf}
+
+distinct : (j k : Clause) → T (not (orIf (same-clause j k) false)) → j ≢ k
+distinct j k = go (same-clause j k)
+  where
+    go : (d : Dec (j ≡ k)) → T (not (orIf d false)) → j ≢ k
+    go (yes e) t = absurd t
+    go (no d) t = d
+
+way-counts : {t : Tables} {document a : ℕ} (f : Followed t document a) → All (λ c. nothing ≢ c) (clausesOfWay f)
+way-counts (its-list d some-list) = (distinct nothing list-of-document tt, tt)
+way-counts (list-of f some-list) = (distinct nothing lists-of-lists tt, way-counts f)
+
+editor-counts : (t : Tables) (s : ℕ) → All (λ c. nothing ≢ c) (clausesOfEditor t s)
+editor-counts t s = go (has editList (privilegesIn (t .subjects) s))
+  where
+    go : (b : Bool) → All (λ c. nothing ≢ c) (cond b [] (editor-without-operation ∷ []))
+    go true = tt
+    go false = (distinct nothing editor-without-operation tt, tt)
+
+counts : {t : Tables} {document s : ℕ} (i : Insider t document s) → All (λ c. nothing ≢ c) (clausesOf i)
+counts the-custodian = (distinct nothing custodian-inside tt, tt)
+counts (owns-document d) = (distinct nothing document-owner-inside tt, tt)
+counts (owns-list f) = (distinct nothing list-owner-inside tt, way-counts f)
+counts {t} {document} {s} (may-edit f allowed) =
+    (distinct nothing editor-inside tt, All-append (λ c. nothing ≢ c) (clausesOfEditor t s) (clausesOfWay f) (editor-counts t s) (way-counts f))
+
+stranger-whole : (t : Tables) (document s : ℕ) → StrangerBut nothing t document s → Stranger t document s
+stranger-whole t document s x =
+    record {
+      present = x .present (distinct nothing caller-present tt);
+      outside = λ i. x .outside record { insider = i; counts = counts i };
+      holds-none = All-map (λ g f e i. f e record { insider = i; counts = counts i }) (t .grants) (x .holds-none (distinct nothing no-role-of-insiders tt));
+    }
+
+claim-whole : (t : Tables) (asker : ℕ) (added : List Change) {r : ℕ} → ClaimBut nothing t asker added r → Claim t asker added r
+claim-whole t asker added ClaimBut.no-role = Claim.no-role
+claim-whole t asker added (ClaimBut.granted g held others) = Claim.granted g held (others (distinct nothing grantor-silent tt))
+claim-whole t asker added (ClaimBut.not-granted missing e) = absurd (distinct nothing role-granted tt e)
+
+pub covered-whole : (stop : List ℕ) (second : List Step) (asker role document : ℕ)
+    → CoveredBut nothing stop second asker role document
+    → Covered stop second asker role document
+covered-whole stop second asker role document covered =
+    record {
+      asker-present = covered .asker-there (distinct nothing asker-present tt);
+      document-present = covered .document-there (distinct nothing document-present tt);
+      strangers-only = All-map (λ c. stranger-whole (tables stop) document (callerOf c)) (writing second) (covered .strangers-only);
+      claimed = claim-whole (tables stop) asker (writing second) (covered .claimed);
+    }
+
+stranger-back : (t : Tables) (document s : ℕ) → Stranger t document s → StrangerBut nothing t document s
+stranger-back t document s x =
+    record {
+      present = λ d. x .present;
+      outside = λ i. x .outside (i .insider);
+      holds-none = λ d. All-map (λ g f e i. f e (i .insider)) (t .grants) (x .holds-none);
+    }
+
+claim-back : (t : Tables) (asker : ℕ) (added : List Change) {r : ℕ} → Claim t asker added r → ClaimBut nothing t asker added r
+claim-back t asker added Claim.no-role = ClaimBut.no-role
+claim-back t asker added (Claim.granted g held others) = ClaimBut.granted g held (λ d. others)
+
+pub whole-covered : (stop : List ℕ) (second : List Step) (asker role document : ℕ)
+    → Covered stop second asker role document
+    → CoveredBut nothing stop second asker role document
+whole-covered stop second asker role document covered =
+    record {
+      asker-there = λ d. covered .asker-present;
+      document-there = λ d. covered .document-present;
+      strangers-only = All-map (λ c. stranger-back (tables stop) document (callerOf c)) (writing second) (covered .strangers-only);
+      claimed = claim-back (tables stop) asker (writing second) (covered .claimed);
+    }
+
+pub nothing-left-out : Without nothing
+nothing-left-out start accepted first second handed-first handed-second asker role document covered =
+    demand-3 start accepted first second handed-first handed-second asker role document (covered-whole (run start first) second asker role document covered)

@@ -1,0 +1,197 @@
+-- A stranger's call, call by call: what it was asked keeps it from what is watched, and from another's grant. t are the tables at the stop, u those that the
+-- call finds. Each call makes one table anew; for each table there is a law that says what is asked of the new rows.
+use mathlib.Core.Bool.{_&&_, _||_, not}
+use mathlib.Core.List.{List, [], _∷_, _++_}
+use mathlib.Core.Logic.{_⊎_, inl, inr, _≢_}
+use mathlib.Core.Option.{some, Option·none-ne-some}
+use mathlib.Core.Path.{_≡_, refl, sym, ap, _∙_}
+use Prim.Native.Nat.{ℕ, zero, suc, _≤_}
+use native.Mathlib.Omega.{arith}
+use lib.Dec.{T, eqb, ltb→lt, eqb→eq}
+use lib.ListN.{length, length-append}
+use Rattle.model.specs.declared.SubjectRow.{SubjectRow}
+use Rattle.model.specs.declared.GrantRow.{GrantRow}
+use Rattle.model.specs.declared.LineRow.{LineRow}
+use Rattle.model.specs.declared.ItemRow.{ItemRow}
+use Rattle.model.specs.Lists.{All, isThere}
+use Rattle.model.specs.Sorted.{find, put, cut}
+use Rattle.model.specs.WhoAndWhat.{custodian, editList, has}
+use Rattle.model.specs.Image.{Tables, grantRow, lineRow, itemRow, subjectRow, grantKey, lineKey, itemIn, itemUsed, isLocked}
+use Rattle.model.specs.Permission.{lineIn, grantOf, permissionSet}
+use Rattle.model.specs.Calls.{Change, callerOf, withSubjects, withGrants, withLines, withItems, setItem, withList, withOwner, stored, after}
+use Rattle.model.specs.Calls.Change.{defineSubject, setGrant, removeGrant, setLine, removeLine, createItem, bind, handOver}
+use Rattle.model.specs.Questions.{questions, givenBy, mayBind}
+use Rattle.laws.specs.Tests.{and-l, or-cases}
+use Rattle.laws.specs.Sorted.{All-put, All-cut, same-or-not, find-put-other, find-cut-other}
+use Rattle.laws.specs.Numbered.{subject-same, item-same, item-other, length-set-item}
+use Rattle.laws.specs.WellFormed.{WellFormed, Passed}
+use Rattle.laws.specs.Kept.{grants-ascending, lines-ascending}
+use Rattle.strangers.specs.Sequences.{Followed, Stranger}
+use Rattle.strangers.specs.Sequences.Insider.{the-custodian}
+use Rattle.strangers.specs.Watched.{Watched, watched-owner, watched-used}
+use Rattle.strangers.specs.Untouched.{Given, Untouched, item-still, no-editor}
+
+module _ (t : Tables) (document : ℕ) where
+  not-custodian : (c : ℕ) → Stranger t document c → c ≢ custodian
+  not-custodian c stranger e = (rw e at stranger) .outside (search the-custodian)
+
+  module _ (well : WellFormed t) (there : T (itemUsed (t .items) document)) (u : Tables) (now : WellFormed u) (same : Untouched t document u) where
+    -- One table anew.
+
+    subject-more : (r : SubjectRow) → Untouched t document (withSubjects u (u .subjects ++ r ∷ []))
+    subject-more r =
+        record {
+          subjects-more = rw length-append (omega (arith, same .subjects-more));
+          subjects-same = λ s present.
+              subject-same (u .subjects) r s (omega (arith, same .subjects-more, ltb→lt s (length (t .subjects)) present)) ∙ same .subjects-same s present;
+          items-more = same .items-more;
+          watched-same = same .watched-same;
+          lines-same = same .lines-same;
+          grants-given = same .grants-given;
+        }
+
+    grants-anew : (rows : List GrantRow) → All (Given t document) rows → Untouched t document (withGrants u rows)
+    grants-anew rows given =
+        record {
+          subjects-more = same .subjects-more;
+          subjects-same = same .subjects-same;
+          items-more = same .items-more;
+          watched-same = same .watched-same;
+          lines-same = same .lines-same;
+          grants-given = given;
+        }
+
+    lines-anew : (rows : List LineRow)
+        → ((a : ℕ) → Followed t document a → (k s : ℕ) → lineIn rows a k s ≡ lineIn (u .lines) a k s)
+        → Untouched t document (withLines u rows)
+    lines-anew rows kept =
+        record {
+          subjects-more = same .subjects-more;
+          subjects-same = same .subjects-same;
+          items-more = same .items-more;
+          watched-same = same .watched-same;
+          lines-same = λ a f k s. kept a f k s ∙ same .lines-same a f k s;
+          grants-given = same .grants-given;
+        }
+
+    items-anew : (rows : List ItemRow)
+        → length (u .items) ≤ length rows
+        → ((i : ℕ) → Watched t document i → itemIn rows i ≡ itemIn (u .items) i)
+        → Untouched t document (withItems u rows)
+    items-anew rows more kept =
+        record {
+          subjects-more = same .subjects-more;
+          subjects-same = same .subjects-same;
+          items-more = omega (arith, same .items-more);
+          watched-same = λ i w. kept i w ∙ same .watched-same i w;
+          lines-same = same .lines-same;
+          grants-given = same .grants-given;
+        }
+
+    -- The lines of a list that the caller may edit are none of a followed list's.
+    module _ (c r b : ℕ) (stranger : Stranger t document c) (allowed : T (has editList (permissionSet u c r b))) where
+      another-list : (a : ℕ) → Followed t document a → b ≢ a
+      another-list a followed e = no-editor t document u same c a stranger followed r (rw e at allowed)
+
+      line-put : (k s v : ℕ) → Untouched t document (withLines u (put lineKey (lineRow b k s v) (u .lines)))
+      line-put k s v = lines-anew (put lineKey (lineRow b k s v) (u .lines)) kept
+        where
+          kept : (a : ℕ) → Followed t document a → (l x : ℕ) → lineIn (put lineKey (lineRow b k s v) (u .lines)) a l x ≡ lineIn (u .lines) a l x
+          kept zero f l x = refl
+          kept (suc a) f l x = find-put-other lineKey (lineRow b k s v) (u .lines) (suc a ∷ l ∷ x ∷ []) (λ e. another-list (suc a) f (cc e))
+
+      line-cut : (k s : ℕ) → Untouched t document (withLines u (cut lineKey (b ∷ k ∷ s ∷ []) (u .lines)))
+      line-cut k s = lines-anew (cut lineKey (b ∷ k ∷ s ∷ []) (u .lines)) kept
+        where
+          kept : (a : ℕ) → Followed t document a → (l x : ℕ) → lineIn (cut lineKey (b ∷ k ∷ s ∷ []) (u .lines)) a l x ≡ lineIn (u .lines) a l x
+          kept zero f l x = refl
+          kept (suc a) f l x =
+              find-cut-other lineKey (b ∷ k ∷ s ∷ []) (u .lines) (suc a ∷ l ∷ x ∷ [])
+              (lines-ascending u (now .lines-hold))
+              (λ e. another-list (suc a) f (cc e))
+
+    -- An item that is not watched anew.
+    item-anew : (i : ℕ) (r : ItemRow) → ¬ Watched t document i → Untouched t document (withItems u (setItem (u .items) i r))
+    item-anew i r apart =
+        items-anew (setItem (u .items) i r) (rw (length-set-item (u .items) i r) (omega arith))
+        (λ j w. item-other (u .items) i r j (λ e. apart (rw e at w)))
+
+    -- who may bind an item is its owner or the custodian
+    not-watched : (c i : ℕ) → Stranger t document c → T (mayBind u c i) → ¬ Watched t document i
+    not-watched c i stranger may w =
+        go (or-cases (eqb c (itemIn (u .items) i .owner .0) && not (isLocked (u .items) i)) (eqb c custodian) may)
+      where
+        go : T (eqb c (itemIn (u .items) i .owner .0) && not (isLocked (u .items) i)) ⊎ T (eqb c custodian) → ⊥
+        go (inl owns) =
+            let e : c ≡ itemIn (u .items) i .owner .0 =
+            eqb→eq c (itemIn (u .items) i .owner .0) (and-l (eqb c (itemIn (u .items) i .owner .0)) (not (isLocked (u .items) i)) owns) in
+            let owner : c ≡ itemIn (t .items) i .owner .0 = e ∙ ap (λ (x : ItemRow). x .owner .0) (same .watched-same i w) in
+            (rw owner at stranger) .outside (watched-owner t document w)
+        go (inr e) = not-custodian c stranger (eqb→eq c custodian e)
+
+    -- The eight calls.
+    pub untouched-after : (c : Change) → Stranger t document (callerOf c) → Passed (questions u c) → Untouched t document (after u c)
+    unfolding questions after
+    untouched-after (defineSubject c r p v) stranger q = subject-more (subjectRow p (stored u c v) c)
+    untouched-after (setGrant c s r d v) stranger q =
+        grants-anew (put grantKey (grantRow s r c d v) (u .grants))
+        (All-put grantKey (Given t document) (grantRow s r c d v) (u .grants)
+        record { grantor-present = stranger .present; grantor-outside = λ holder. stranger .outside }
+        (same .grants-given))
+    untouched-after (removeGrant c s r) stranger q =
+        grants-anew (cut grantKey (s ∷ r ∷ []) (u .grants)) (All-cut grantKey (Given t document) (s ∷ r ∷ []) (u .grants) (same .grants-given))
+    untouched-after (setLine c r a k s v) stranger q = line-put c r a stranger (search q) k s v
+    untouched-after (removeLine c r a k s) stranger q = line-cut c r a stranger (search q) k s
+    untouched-after (createItem c r a f) stranger q =
+        items-anew (u .items ++ itemRow c a f ∷ []) (rw length-append (omega arith))
+        (λ i w. item-same (u .items) (itemRow c a f) i (item-still t document u same i (watched-used t document well there w)))
+    untouched-after (bind c i a) stranger q = item-anew i (withList (itemIn (u .items) i) a) (not-watched c i stranger (search q))
+    untouched-after (handOver c i o) stranger q =
+        item-anew i (withOwner (itemIn (u .items) i) o) (λ w. not-custodian c stranger (eqb→eq c custodian (search q)))
+
+  -- Another's grant: only its grantor sets it anew, and only he or the custodian removes it.
+  module _ (u : Tables) (now : WellFormed u) (g : GrantRow) where
+    put-kept : (k : List ℕ) (x : GrantRow)
+        → find grantKey k (u .grants) ≡ some g
+        → T (not (isThere (find grantKey (grantKey x) (u .grants))) || givenBy (x .grantor .0) (find grantKey (grantKey x) (u .grants)))
+        → x .grantor .0 ≢ g .grantor .0
+        → find grantKey k (put grantKey x (u .grants)) ≡ some g
+    put-kept k x held asked another = go (same-or-not (grantKey x) k)
+      where
+        go : (grantKey x ≡ k) ⊎ (grantKey x ≢ k) → find grantKey k (put grantKey x (u .grants)) ≡ some g
+        go (inl e) = absurd (another (sym (eqb→eq (g .grantor .0) (x .grantor .0) (rw (e, held) at asked))))
+        go (inr d) = find-put-other grantKey x (u .grants) k d ∙ held
+
+    cut-kept : (k l : List ℕ) (c : ℕ)
+        → find grantKey k (u .grants) ≡ some g
+        → T (givenBy c (find grantKey l (u .grants)) || eqb c custodian)
+        → c ≢ g .grantor .0
+        → c ≢ custodian
+        → find grantKey k (cut grantKey l (u .grants)) ≡ some g
+    cut-kept k l c held asked another no-custodian = go (same-or-not l k)
+      where
+        mine : T (eqb (g .grantor .0) c) ⊎ T (eqb c custodian) → ⊥
+        mine (inl e) = another (sym (eqb→eq (g .grantor .0) c e))
+        mine (inr e) = no-custodian (eqb→eq c custodian e)
+
+        go : (l ≡ k) ⊎ (l ≢ k) → find grantKey k (cut grantKey l (u .grants)) ≡ some g
+        go (inl e) = absurd (mine (or-cases (eqb (g .grantor .0) c) (eqb c custodian) (rw (e, held) at asked)))
+        go (inr d) = find-cut-other grantKey l (u .grants) k (grants-ascending u (now .grants-hold)) d ∙ held
+
+    pub grant-kept : (s r : ℕ) (c : Change)
+        → grantOf u s r ≡ some g
+        → callerOf c ≢ g .grantor .0
+        → Stranger t document (callerOf c)
+        → Passed (questions u c)
+        → grantOf (after u c) s r ≡ some g
+    unfolding questions after
+    grant-kept s zero c held another stranger q = absurd (Option·none-ne-some g held)
+    grant-kept s (suc r) (defineSubject c x p v) held another stranger q = held
+    grant-kept s (suc r) (setGrant c x y d v) held another stranger q = put-kept (s ∷ suc r ∷ []) (grantRow x y c d v) held (search q) another
+    grant-kept s (suc r) (removeGrant c x y) held another stranger q =
+        cut-kept (s ∷ suc r ∷ []) (x ∷ y ∷ []) c held (search q) another (not-custodian c stranger)
+    grant-kept s (suc r) (setLine c x a k y v) held another stranger q = held
+    grant-kept s (suc r) (removeLine c x a k y) held another stranger q = held
+    grant-kept s (suc r) (createItem c x a f) held another stranger q = held
+    grant-kept s (suc r) (bind c i a) held another stranger q = held
+    grant-kept s (suc r) (handOver c i o) held another stranger q = held

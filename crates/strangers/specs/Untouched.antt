@@ -1,0 +1,187 @@
+-- What strangers leave as it was, and that the permission set is read from nothing else. t are the tables at the stop, u those now.
+use mathlib.Core.Bool.{Bool, true, false, cond}
+use mathlib.Core.List.{[], _∷_}
+use mathlib.Core.Logic.{_⊎_, inl, inr}
+use mathlib.Core.Option.{Option, none, some}
+use mathlib.Core.Path.{_≡_, refl, ap, _∙_}
+use Prim.Native.Nat.{ℕ, zero, suc, _<_, _≤_}
+use native.Mathlib.Omega.{arith}
+use lib.Dec.{T, ltb→lt, lt→ltb}
+use lib.ListN.{length}
+use Rattle.model.specs.declared.SubjectRow.{SubjectRow}
+use Rattle.model.specs.declared.GrantRow.{GrantRow}
+use Rattle.model.specs.Lists.{All}
+use Rattle.model.specs.Tree.{inTree}
+use Rattle.model.specs.WhoAndWhat.{editList, has, _∩_}
+use Rattle.model.specs.Image.{Tables, itselfKind, ownerKind, everyoneKind, grantKey, subjectIn, parentIn, privilegesIn, subjectUsed, itemIn, itemUsed, grantRules}
+use Rattle.model.specs.Permission.{lineIn, directLine, partOf, linesPart, grantOf, lentOperations, lentPart, operationUnder, objectUnder, permissionUnder, permissionSet}
+use Rattle.laws.specs.Tests.{and-l, and-r, or-cases, All-map, All-both, All-self}
+use Rattle.laws.specs.Sorted.{IfSome, All-find}
+use Rattle.laws.specs.Sets.{has-or, has-and}
+use Rattle.laws.specs.WellFormed.{WellFormed}
+use Rattle.laws.specs.Tree.{tree-same, group-same}
+use Rattle.laws.specs.Kept.{grant-rules}
+use Rattle.strangers.specs.Sequences.{Followed, Insider, Stranger}
+use Rattle.strangers.specs.Sequences.Start.{the-document}
+use Rattle.strangers.specs.Sequences.Insider.{may-edit}
+use Rattle.strangers.specs.Watched.{Watched, watched-list, owner-used}
+use Rattle.strangers.specs.Watched.Watched.{start, list}
+
+module _ (t : Tables) (document : ℕ) where
+  -- a grant's grantor was there at the stop, and is no insider where a stranger holds it
+  pub record Given (g : GrantRow) : Type 0 where
+    pub grantor-present : T (subjectUsed (t .subjects) (g .grantor .0))
+    pub grantor-outside : Stranger t document (g .receiver .0) → ¬ Insider t document (g .grantor .0)
+
+  -- No subject at the stop has gone or changed, nor has a watched item or a line of a followed list. Every grant was given as said.
+  pub record Untouched (u : Tables) : Type 0 where
+    pub subjects-more : length (t .subjects) ≤ length (u .subjects)
+    pub subjects-same : (s : ℕ) → T (subjectUsed (t .subjects) s) → subjectIn (u .subjects) s ≡ subjectIn (t .subjects) s
+    pub items-more : length (t .items) ≤ length (u .items)
+    pub watched-same : (i : ℕ) → Watched t document i → itemIn (u .items) i ≡ itemIn (t .items) i
+    pub lines-same : (a : ℕ) → Followed t document a → (k s : ℕ) → lineIn (u .lines) a k s ≡ lineIn (t .lines) a k s
+    pub grants-given : All Given (u .grants)
+
+  -- All of it holds at the stop. A stranger holds none of the grants whose grantor is an insider, row by row.
+  pub untouched-at-stop : WellFormed t → Untouched t
+  untouched-at-stop well =
+      record {
+        subjects-more = omega arith;
+        subjects-same = λ s present. refl;
+        items-more = omega arith;
+        watched-same = λ i w. refl;
+        lines-same = λ a f k s. refl;
+        grants-given =
+            All-map grant-given (t .grants)
+            (All-both (λ g. T (grantRules (t .subjects) g)) (λ g. (s : ℕ) → All (outside-for s) (t .grants) → outside-for s g) (t .grants)
+            (grant-rules t (well .grants-hold))
+            (All-self outside-for (t .grants)));
+      }
+    where
+      outside-for : ℕ → GrantRow → Type 0
+      outside-for s g = g .receiver .0 ≡ s → ¬ Insider t document (g .grantor .0)
+
+      grant-given : (g : GrantRow) → T (grantRules (t .subjects) g) × ((s : ℕ) → All (outside-for s) (t .grants) → outside-for s g) → Given g
+      grant-given g p =
+          record {
+            grantor-present = search (and-l, and-r);
+            grantor-outside = λ holder. p .1 (g .receiver .0) (holder .holds-none) refl;
+          }
+
+  module _ (u : Tables) (same : Untouched u) where
+    -- what was present still is
+    pub subject-still : (s : ℕ) → T (subjectUsed (t .subjects) s) → T (subjectUsed (u .subjects) s)
+    subject-still s present = lt→ltb s (length (u .subjects)) (omega (arith, same .subjects-more, ltb→lt s (length (t .subjects)) present))
+
+    pub item-still : (i : ℕ) → T (itemUsed (t .items) i) → T (itemUsed (u .items) i)
+    item-still zero present = present
+    item-still (suc n) present = lt→ltb n (length (u .items)) (omega (arith, same .items-more, ltb→lt n (length (t .items)) present))
+
+    parents-agree : (s : ℕ) → s < length (t .subjects) → parentIn (u .subjects) s ≡ parentIn (t .subjects) s
+    parents-agree s h = ap (λ (x : SubjectRow). x .parent .0) (same .subjects-same s (search lt→ltb))
+
+    privileges-same : (s : ℕ) → T (subjectUsed (t .subjects) s) → privilegesIn (u .subjects) s ≡ privilegesIn (t .subjects) s
+    privileges-same s present = ap (λ (x : SubjectRow). x .privileges) (same .subjects-same s present)
+
+    own-lines-agree : (a : ℕ) → (a ≡ 0) ⊎ Followed t document a → (k s : ℕ) → lineIn (u .lines) a k s ≡ lineIn (t .lines) a k s
+    own-lines-agree a (inl e) k s = rw e refl
+    own-lines-agree a (inr f) k s = same .lines-same a f k s
+
+    -- the lines' part on a watched item
+    pub part-same : (s i : ℕ) → T (subjectUsed (t .subjects) s) → Watched t document i → linesPart u s i ≡ linesPart t s i
+    unfolding partOf directLine
+    part-same s i present w =
+        let agree : (k x : ℕ) → lineIn (u .lines) (itemIn (t .items) i .list .0) k x ≡ lineIn (t .lines) (itemIn (t .items) i .list .0) k x =
+        own-lines-agree (itemIn (t .items) i .list .0) (watched-list t document w) in
+        rw (
+          same .watched-same i w,
+          agree ownerKind 0,
+          agree itselfKind s,
+          agree everyoneKind 0,
+          group-same (parentIn (u .subjects)) (parentIn (t .subjects)) (length (t .subjects)) parents-agree
+              (u .lines) (t .lines) (itemIn (t .items) i .list .0) agree s (search ltb→lt),
+        )
+
+    -- a found grant was given
+    given-of : (s r : ℕ) → IfSome (λ g. Given g × (grantKey g ≡ s ∷ r ∷ [])) (grantOf u s r)
+    given-of s zero = tt
+    given-of s (suc r) = All-find grantKey Given (s ∷ suc r ∷ []) (u .grants) (same .grants-given)
+
+    -- A stranger may not edit a followed list, under whatever role: that its own lines' part allows it would make it an insider, and that its grantor's does
+    -- would make that one an insider.
+    module _ (c a : ℕ) (stranger : Stranger t document c) (followed : Followed t document a) where
+      allowed-inside : (s : ℕ) → T (subjectUsed (t .subjects) s) → T (has editList (linesPart u s a)) → Insider t document s
+      allowed-inside s present allowed =
+          let allowed-then : T (has editList (linesPart t s a)) = rw (part-same s a present (list followed)) at allowed in search may-edit
+
+      lent-none : (o : Option GrantRow) (r : ℕ) → IfSome (λ g. Given g × (grantKey g ≡ c ∷ r ∷ [])) o → ¬ T (has editList (lentPart u a o))
+      unfolding has
+      lent-none none r p allowed = allowed
+      lent-none (some g) r p allowed = go (inTree (parentIn (u .subjects)) (g .domain .0) (itemIn (u .items) a .owner .0)) allowed
+        where
+          received : Stranger t document (g .receiver .0)
+          received = let holder : g .receiver .0 ≡ c = cc (p .1) in rw holder stranger
+
+          go : (b : Bool) → ¬ T (has editList (cond b (g .privileges ∩ linesPart u (g .grantor .0) a) 0))
+          go true h =
+              p .0 .grantor-outside received
+              (allowed-inside (g .grantor .0) (p .0 .grantor-present)
+              (and-r (has editList (g .privileges)) (has editList (linesPart u (g .grantor .0) a))
+              (rw (has-and editList (g .privileges) (linesPart u (g .grantor .0) a)) at h)))
+          go false h = h
+
+      pub no-editor : (r : ℕ) → ¬ T (has editList (permissionSet u c r a))
+      unfolding permissionUnder objectUnder
+      no-editor r allowed =
+          let object : T (has editList (objectUnder u c (grantOf u c r) a)) =
+          and-r (has editList (operationUnder u c (grantOf u c r))) (has editList (objectUnder u c (grantOf u c r) a))
+          (rw (has-and editList (operationUnder u c (grantOf u c r)) (objectUnder u c (grantOf u c r) a)) at allowed) in
+          go
+          (or-cases (has editList (linesPart u c a)) (has editList (lentPart u a (grantOf u c r)))
+          (rw (has-or editList (linesPart u c a) (lentPart u a (grantOf u c r))) at object))
+        where
+          go : T (has editList (linesPart u c a)) ⊎ T (has editList (lentPart u a (grantOf u c r))) → ⊥
+          go (inl own) = stranger .outside (allowed-inside c (stranger .present) own)
+          go (inr lent) = lent-none (grantOf u c r) r (given-of c r) lent
+
+    -- The permission set on the document is read from what is the same, for one who was present and under a grant whose grantor was.
+    module _ (well : WellFormed t) (there : T (itemUsed (t .items) document)) (asker : ℕ) (present : T (subjectUsed (t .subjects) asker)) where
+      the-item : itemIn (u .items) document ≡ itemIn (t .items) document
+      the-item = same .watched-same document (start the-document)
+
+      lent-operations-same : (o : Option GrantRow) → IfSome (λ g. T (subjectUsed (t .subjects) (g .grantor .0))) o → lentOperations u o ≡ lentOperations t o
+      lent-operations-same none p = refl
+      lent-operations-same (some g) p = ap (λ (x : ℕ). g .privileges ∩ x) (privileges-same (g .grantor .0) p)
+
+      lent-part-same : (o : Option GrantRow) → IfSome (λ g. T (subjectUsed (t .subjects) (g .grantor .0))) o → lentPart u document o ≡ lentPart t document o
+      lent-part-same none p = refl
+      lent-part-same (some g) p =
+          rw (
+            part-same (g .grantor .0) document p (start the-document),
+            the-item,
+            tree-same (parentIn (u .subjects)) (parentIn (t .subjects)) (length (t .subjects)) parents-agree (g .domain .0) (itemIn (t .items) document .owner .0)
+                (search (ltb→lt, owner-used)),
+          )
+
+      under-same : (o : Option GrantRow) → IfSome (λ g. T (subjectUsed (t .subjects) (g .grantor .0))) o
+          → permissionUnder u asker o document ≡ permissionUnder t asker o document
+      unfolding permissionUnder operationUnder objectUnder
+      under-same o p =
+          rw (
+            privileges-same asker present,
+            lent-operations-same o p,
+            part-same asker document present (start the-document),
+            lent-part-same o p,
+          )
+
+      grantor-present-of : (o : Option GrantRow) (r : ℕ) → IfSome (λ g. Given g × (grantKey g ≡ asker ∷ r ∷ [])) o
+          → IfSome (λ g. T (subjectUsed (t .subjects) (g .grantor .0))) o
+      grantor-present-of none r p = tt
+      grantor-present-of (some g) r p = p .0 .grantor-present
+
+      pub permission-same : (role : ℕ)
+          → grantOf u asker role ≡ grantOf t asker role
+          → permissionSet u asker role document ≡ permissionSet t asker role document
+      permission-same role grant =
+          under-same (grantOf u asker role) (grantor-present-of (grantOf u asker role) role (given-of asker role))
+          ∙ ap (λ (o : Option GrantRow). permissionUnder t asker o document) grant

@@ -1,0 +1,130 @@
+-- The followed lists as a walk: from the document to its list, to that list's own list, and on until none or a repeat. It meets exactly the followed lists.
+-- At each step the lists met are followed ones, and the document's list and theirs are met or next to meet. At the end nothing new is next, so all are met.
+-- The steps suffice: a list that has a list of its own is an item in use, so meeting it leaves one item fewer to meet.
+use mathlib.Core.Bool.{Bool, true, false, _||_, cond, true≢false}
+use mathlib.Core.List.{List, [], _∷_}
+use mathlib.Core.Logic.{inl, inr, _≢_}
+use mathlib.Core.Path.{_≡_, refl, ap, _∙_}
+use Prim.Native.Nat.{ℕ, zero, suc, _+_, _<_, _≤_}
+use native.Mathlib.Omega.{arith}
+use borrow.Author.Tests.{eq-eqb}
+use lib.Dec.{T, eqb, eqb→eq, eqb-refl, eqb·suc-zero}
+use lib.ListN.{length, List·getD-eq-default}
+use Rattle.model.specs.Lists.{All}
+use Rattle.model.specs.Image.{Tables, itemIn, noItem}
+use Rattle.laws.specs.Tests.{two, or-l, or-r, or-cases, eq-or-ne, le-or-lt, true-T, All-map}
+use Rattle.strangers.specs.Sequences.{Followed}
+use Rattle.strangers.specs.Sequences.Start.{the-document}
+use Rattle.strangers.specs.Sequences.Followed.{its-list, list-of}
+
+abbrev pub among : ℕ → List ℕ → Bool
+among a [] = false
+among a (x ∷ xs) = eqb a x || among a xs
+
+abbrev pub listOf : Tables → ℕ → ℕ
+listOf t i = itemIn (t .items) i .list .0
+
+-- The lists met, from list a on, after those met before. With more steps than there are items the walk is not cut short.
+unfoldable pub walk : Tables → ℕ → List ℕ → ℕ → List ℕ
+walk t zero met a = met
+walk t (suc n) met a = cond (eqb a 0 || among a met) met (walk t n (a ∷ met) (listOf t a))
+
+-- the last list met stands first
+abbrev pub followedLists : Tables → ℕ → List ℕ
+followedLists t document = walk t (suc (length (t .items))) [] (listOf t document)
+
+-- how many of the numbers 1 to m are not met
+unfoldable left : ℕ → List ℕ → ℕ
+left zero met = 0
+left (suc m) met = cond (among (suc m) met) 0 1 + left m met
+
+left-at-start : (m : ℕ) → left m [] ≡ m
+unfolding left
+left-at-start zero = refl
+left-at-start (suc m) = omega (arith, left-at-start m)
+
+-- a number met already (q) stays met as another is, or itself (p)
+one-more : (p q : Bool) → cond (p || q) 0 1 ≤ cond q 0 1
+one-more true q = omega arith
+one-more false q = omega arith
+
+left-le : (m a : ℕ) (met : List ℕ) → left m (a ∷ met) ≤ left m met
+unfolding left
+left-le zero a met = omega arith
+left-le (suc m) a met = omega (arith, one-more (eqb (suc m) a) (among (suc m) met), left-le m a met)
+
+-- one of them met for the first time leaves one fewer
+left-lt : (m k : ℕ) (met : List ℕ) → k < m → among (suc k) met ≡ false → left m (suc k ∷ met) < left m met
+unfolding left
+left-lt zero k met h new = omega arith
+left-lt (suc m) k met h new = elim (eq-or-ne m k) [
+  | inl e ↦ rw (eq-eqb (suc m) (suc k) (ap suc e), e, new) (omega (arith, left-le k (suc k) met))
+  | inr d ↦ omega (arith, one-more (eqb (suc m) (suc k)) (among (suc m) met), left-lt m k met (omega arith) new)
+]
+
+abbrev itemsLeft : Tables → List ℕ → ℕ
+itemsLeft t = left (length (t .items))
+
+-- what has a list is an item in use, so meeting it leaves one item fewer
+items-lt : (t : Tables) (a : ℕ) (met : List ℕ) → among a (0 ∷ met) ≡ false → listOf t a ≢ 0 → itemsLeft t (a ∷ met) < itemsLeft t met
+items-lt t zero met new some-list = absurd (some-list refl)
+items-lt t (suc k) met new some-list = elim (le-or-lt (length (t .items)) k) [
+  | inl past ↦ absurd (some-list (ap (λ r. r .list .0) (List·getD-eq-default (t .items) noItem past)))
+  | inr used ↦ left-lt (length (t .items)) k met used (rw (eqb·suc-zero k) at new)
+]
+
+-- what holds of each number of a list holds of one among them
+among-All : (P : ℕ → Type 0) (xs : List ℕ) → All P xs → (a : ℕ) → T (among a xs) → P a
+among-All P [] all a h = absurd h
+among-All P (x ∷ xs) all a h = elim (or-cases (eqb a x) (among a xs) h) [ inl e ↦ rw (eqb→eq a x e) (all .0) | inr l ↦ among-All P xs (all .1) a l ]
+
+module _ (t : Tables) (document : ℕ) where
+  -- an item has no list, or one among these
+  abbrev Listed : List ℕ → ℕ → Type 0
+  Listed lists x = listOf t x ≢ 0 → T (among (listOf t x) lists)
+
+  -- where list a is none or is met already, it adds nothing to those met
+  at-end : (met : List ℕ) (a : ℕ) → T (among a (0 ∷ met)) → (x : ℕ) → Listed (a ∷ met) x → Listed met x
+  at-end met a end x l some-list = elim (or-cases (eqb (listOf t x) a) (among (listOf t x) met) (l some-list)) [
+    | inl e ↦ elim (or-cases (eqb a 0) (among a met) end) [
+      | inl z ↦ absurd (some-list (eqb→eq (listOf t x) a e ∙ eqb→eq a 0 z))
+      | inr h ↦ rw (eqb→eq (listOf t x) a e) h
+    ]
+    | inr h ↦ h
+  ]
+
+  -- Along the walk, a is the next list, and there are more steps to go than items left. What is met is followed; the lists of the document and of those met
+  -- are met or next, and at the end they are met.
+  walk-met : (n : ℕ) (met : List ℕ) (a : ℕ)
+      → (a ≢ 0 → Followed t document a × (itemsLeft t met < n))
+      → All (Followed t document) met
+      → All (Listed (a ∷ met)) (document ∷ met)
+      → All (Followed t document) (walk t n met a) × All (Listed (walk t n met a)) (document ∷ walk t n met a)
+  unfolding walk
+  walk-met zero met a next fs ls = elim (eq-or-ne a 0) [
+    | inl e ↦ (fs, All-map (at-end met a (rw e tt)) (document ∷ met) ls)
+    | inr d ↦ absurd (omega (arith, next d .1))
+  ]
+  walk-met (suc n) met a next fs ls = elim (two (among a (0 ∷ met))) [
+    | inl e ↦ rw e (fs, All-map (at-end met a (true-T (among a (0 ∷ met)) e)) (document ∷ met) ls)
+    | inr new ↦
+        let f : Followed t document a × (itemsLeft t met < suc n) = next (λ e. true≢false (rw (eq-eqb a 0 e) at new)) in
+        let rest : All (Listed (listOf t a ∷ a ∷ met)) (document ∷ met) = All-map (λ x l some-list. search or-r) (document ∷ met) ls in
+        rw new (walk-met n (a ∷ met) (listOf t a)
+        (λ some-list. (list-of (f .0) some-list, omega (arith, items-lt t a met new some-list)))
+        (f .0, fs)
+        (rest .0, (λ some-list. search (or-l, eqb-refl), rest .1)))
+  ]
+
+  walked : All (Followed t document) (followedLists t document) × All (Listed (followedLists t document)) (document ∷ followedLists t document)
+  walked = walk-met (suc (length (t .items))) [] (listOf t document)
+      (λ some-list. (its-list the-document some-list, omega (arith, left-at-start (length (t .items)))))
+      tt (λ some-list. search (or-l, eqb-refl), tt)
+
+  pub walked-followed : (a : ℕ) → T (among a (followedLists t document)) → Followed t document a
+  walked-followed = among-All (Followed t document) (followedLists t document) (walked .0)
+
+  pub followed-walked : (a : ℕ) → Followed t document a → T (among a (followedLists t document))
+  followed-walked _ (its-list the-document some-list) = walked .1 .0 some-list
+  followed-walked _ (list-of {a} f some-list) =
+      among-All (Listed (followedLists t document)) (followedLists t document) (walked .1 .1) a (followed-walked a f) some-list

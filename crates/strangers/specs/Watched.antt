@@ -1,0 +1,60 @@
+-- The watched items: the document and its followed lists. Each is in use, its owner is an insider, and its own list is none or a followed one.
+use mathlib.Core.Logic.{_⊎_, inl, inr, _≢_}
+use mathlib.Core.Path.{_≡_}
+use Prim.Native.Nat.{ℕ}
+use lib.Dec.{T, eqb, eqb→eq}
+use Rattle.model.specs.WhoAndWhat.{has}
+use Rattle.model.specs.Image.{Tables, subjectUsed, itemIn, itemUsed, isList, noneOrList}
+use Rattle.laws.specs.Tests.{and-l, and-r, or-cases, eq-or-ne}
+use Rattle.laws.specs.WellFormed.{WellFormed}
+use Rattle.laws.specs.Kept.{GoodItem, item-good}
+use Rattle.strangers.specs.Sequences.{Start, Followed, Insider}
+use Rattle.strangers.specs.Sequences.Start.{the-document}
+use Rattle.strangers.specs.Sequences.Followed.{its-list, list-of}
+use Rattle.strangers.specs.Sequences.Insider.{owns-document, owns-list}
+
+pub data Watched (t : Tables) (document : ℕ) : ℕ → Type 0 where
+  start : {d : ℕ} → Start t document d → Watched t document d
+  list : {a : ℕ} → Followed t document a → Watched t document a
+
+module _ (t : Tables) (document : ℕ) where
+  pub watched-owner : {i : ℕ} → Watched t document i → Insider t document (itemIn (t .items) i .owner .0)
+  watched-owner (Watched.start d) = search owns-document
+  watched-owner (Watched.list a) = search owns-list
+
+  followed-list : {i : ℕ} → Watched t document i → itemIn (t .items) i .list .0 ≢ 0 → Followed t document (itemIn (t .items) i .list .0)
+  followed-list (Watched.start d) some-list = search its-list
+  followed-list (Watched.list a) some-list = search list-of
+
+  pub watched-list : {i : ℕ} → Watched t document i → (itemIn (t .items) i .list .0 ≡ 0) ⊎ Followed t document (itemIn (t .items) i .list .0)
+  watched-list {i} w = elim (eq-or-ne (itemIn (t .items) i .list .0) 0) [ inl e ↦ inl e | inr d ↦ inr (followed-list w d) ]
+
+  module _ (well : WellFormed t) (present : T (itemUsed (t .items) document)) where
+    -- an item in use has for its list none or one in use
+    list-used : (i : ℕ) → T (itemUsed (t .items) i) → itemIn (t .items) i .list .0 ≢ 0 → T (itemUsed (t .items) (itemIn (t .items) i .list .0))
+    list-used i used some-list =
+        let good : GoodItem t i (itemIn (t .items) i) = item-good t well i used in
+        let rule : T (noneOrList (t .items) (itemIn (t .items) i .list .0)) = search (and-l, and-r) in
+        go (or-cases (eqb (itemIn (t .items) i .list .0) 0) (isList (t .items) (itemIn (t .items) i .list .0)) rule)
+      where
+        go : T (eqb (itemIn (t .items) i .list .0) 0) ⊎ T (isList (t .items) (itemIn (t .items) i .list .0))
+            → T (itemUsed (t .items) (itemIn (t .items) i .list .0))
+        go (inl e) = absurd (some-list (eqb→eq (itemIn (t .items) i .list .0) 0 e))
+        go (inr l) = and-l (itemUsed (t .items) (itemIn (t .items) i .list .0)) (has 0 (itemIn (t .items) (itemIn (t .items) i .list .0) .flags)) l
+
+    start-used : {d : ℕ} → Start t document d → T (itemUsed (t .items) d)
+    start-used the-document = present
+
+    followed-used : {a : ℕ} → Followed t document a → T (itemUsed (t .items) a)
+    followed-used (its-list {d} s some-list) = list-used d (start-used s) some-list
+    followed-used (list-of {a} f some-list) = list-used a (followed-used f) some-list
+
+    pub watched-used : {i : ℕ} → Watched t document i → T (itemUsed (t .items) i)
+    watched-used (Watched.start d) = start-used d
+    watched-used (Watched.list a) = followed-used a
+
+    -- the owner of an item in use is a subject in use
+    pub owner-used : T (subjectUsed (t .subjects) (itemIn (t .items) document .owner .0))
+    owner-used =
+        let good : GoodItem t document (itemIn (t .items) document) = item-good t well document present in
+        search (and-l, and-r)
