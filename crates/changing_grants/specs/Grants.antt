@@ -11,20 +11,20 @@ use Rattle.model.specs.declared.GrantRow.{GrantRow}
 use Rattle.model.specs.Image.{layoutOf, tablesBy, tables, widthOf, grantFormat, grantKey, grantRow, noGrant, encode}
 use Rattle.model.specs.Calls.{withGrants, after}
 use Rattle.model.specs.Calls.Change.{setGrant, removeGrant}
-use Rattle.model.specs.Questions.{questions, firstNo, answer, Accepted, act}
+use Rattle.model.specs.Questions.{questions, answer, Accepted, act}
 use Rattle.laws.specs.WellFormed.{Passed}
 use Rattle.laws.specs.Back.{tables-well-formed}
 use Rattle.laws.specs.Acts.{was-passed, was-accepted, leaves, slice-bytes}
 use Rattle.stores.specs.Stores.{grantsCounter, storedAt, takenAt}
 use Rattle.stores.specs.Stored.{grants-stored, put-stored, cut-stored}
 use Rattle.spots.specs.declared.Spot.{Spot}
-use Rattle.spots.specs.Spots.{spotIn, asked}
+use Rattle.spots.specs.Spots.{grantSpotOf}
 use Rattle.spots.specs.SpotLaws.{spot-done}
 
 module _ (img : List ℕ) (a : Answer) (lay : Layout) (there : lay ≡ layoutOf img) (new : List ℕ) (m : ℕ) (told : a ≡ answer 0 m) (spot : Spot) where
   pub grant-set : (c s r d v : ℕ) (x : GrantRow)
       → a ≡ act img (setGrant c s r d v) .answer
-      → spot ≡ asked (firstNo (questions (tablesBy lay img) (setGrant c s r d 0))) (spotIn grantKey (s ∷ r ∷ []) (tablesBy lay img .grants))
+      → spot ≡ grantSpotOf (tablesBy lay img) (setGrant c s r d 0) s r
       → x ≡ grantRow s r c d v
       → new ≡ storedAt (grantFormat (widthOf lay)) grantsCounter (lay .grants) spot x img
       → ((i : ℕ) → Fits w8 (getD img i 0))
@@ -40,7 +40,7 @@ module _ (img : List ℕ) (a : Answer) (lay : Layout) (there : lay ≡ layoutOf 
 
   pub grant-cut : (c s r : ℕ)
       → a ≡ act img (removeGrant c s r) .answer
-      → spot ≡ asked (firstNo (questions (tablesBy lay img) (removeGrant c s r))) (spotIn grantKey (s ∷ r ∷ []) (tablesBy lay img .grants))
+      → spot ≡ grantSpotOf (tablesBy lay img) (removeGrant c s r) s r
       → new ≡ takenAt (grantFormat (widthOf lay)) grantsCounter (lay .grants) spot img
       → ((i : ℕ) → Fits w8 (getD img i 0))
       → new ≡ act img (removeGrant c s r) .image

@@ -11,20 +11,20 @@ use Rattle.model.specs.declared.LineRow.{LineRow}
 use Rattle.model.specs.Image.{layoutOf, tablesBy, tables, widthOf, lineFormat, lineKey, lineRow, noLine, encode}
 use Rattle.model.specs.Calls.{withLines, after}
 use Rattle.model.specs.Calls.Change.{setLine, removeLine}
-use Rattle.model.specs.Questions.{questions, firstNo, answer, Accepted, act}
+use Rattle.model.specs.Questions.{questions, answer, Accepted, act}
 use Rattle.laws.specs.WellFormed.{Passed}
 use Rattle.laws.specs.Back.{tables-well-formed}
 use Rattle.laws.specs.Acts.{was-passed, was-accepted, leaves, slice-bytes}
 use Rattle.stores.specs.Stores.{linesCounter, storedAt, takenAt}
 use Rattle.stores.specs.Stored.{lines-stored, put-stored, cut-stored}
 use Rattle.spots.specs.declared.Spot.{Spot}
-use Rattle.spots.specs.Spots.{spotIn, asked}
+use Rattle.spots.specs.Spots.{lineSpotOf}
 use Rattle.spots.specs.SpotLaws.{spot-done}
 
 module _ (img : List ℕ) (a : Answer) (lay : Layout) (there : lay ≡ layoutOf img) (new : List ℕ) (m : ℕ) (told : a ≡ answer 0 m) (spot : Spot) where
   pub line-set : (c r l k s v : ℕ) (x : LineRow)
       → a ≡ act img (setLine c r l k s v) .answer
-      → spot ≡ asked (firstNo (questions (tablesBy lay img) (setLine c r l k s 0))) (spotIn lineKey (l ∷ k ∷ s ∷ []) (tablesBy lay img .lines))
+      → spot ≡ lineSpotOf (tablesBy lay img) (setLine c r l k s 0) l k s
       → x ≡ lineRow l k s v
       → new ≡ storedAt (lineFormat (widthOf lay)) linesCounter (lay .lines) spot x img
       → ((i : ℕ) → Fits w8 (getD img i 0))
@@ -40,7 +40,7 @@ module _ (img : List ℕ) (a : Answer) (lay : Layout) (there : lay ≡ layoutOf 
 
   pub line-cut : (c r l k s : ℕ)
       → a ≡ act img (removeLine c r l k s) .answer
-      → spot ≡ asked (firstNo (questions (tablesBy lay img) (removeLine c r l k s))) (spotIn lineKey (l ∷ k ∷ s ∷ []) (tablesBy lay img .lines))
+      → spot ≡ lineSpotOf (tablesBy lay img) (removeLine c r l k s) l k s
       → new ≡ takenAt (lineFormat (widthOf lay)) linesCounter (lay .lines) spot img
       → ((i : ℕ) → Fits w8 (getD img i 0))
       → new ≡ act img (removeLine c r l k s) .image

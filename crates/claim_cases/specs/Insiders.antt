@@ -9,14 +9,14 @@ use lib.Dec.{T, eqb, eqb→eq, eqb-refl, T-not}
 use Rattle.model.specs.declared.GrantRow.{GrantRow}
 use Rattle.model.specs.Lists.{All, every}
 use Rattle.model.specs.WhoAndWhat.{custodian, editList, has}
-use Rattle.model.specs.Image.{Tables, privilegesIn, itemIn}
+use Rattle.model.specs.Image.{Tables, privilegesIn}
 use Rattle.model.specs.Permission.{linesPart}
 use Rattle.laws.specs.Tests.{true-T, and-i, and-l, and-r, or-l, or-r, or-cases, every-All, All-map, All-left, All-right}
-use Rattle.strangers.specs.Sequences.{Followed, Insider}
+use Rattle.strangers.specs.Sequences.{listOf, ownerOf, Followed, Insider}
 use Rattle.strangers.specs.Sequences.Start.{the-document}
 use Rattle.strangers.specs.Sequences.Followed.{its-list, list-of}
 use Rattle.strangers.specs.Sequences.Insider.{the-custodian, owns-document, owns-list, may-edit}
-use Rattle.strangers.specs.Walk.{among, listOf, followedLists, followed-walked}
+use Rattle.strangers.specs.Walk.{someOf, among, followedLists, followed-walked}
 use Rattle.claim_cases.specs.Without.{Clause, same-clause, clausesOfWay, clausesOfEditor, clausesOf, InsiderBut}
 
 -- a test that counts as passed where something else is the case
@@ -31,11 +31,7 @@ or-if-is (no d) b t n = t
 pub unequal : (a b : ℕ) → T (not (eqb a b)) → a ≢ b
 unequal a b p e = T-not (eqb a b) p (true-T (eqb a b) (eq-eqb a b e))
 
--- some number of a list passes a test
-abbrev someOf : (ℕ → Bool) → List ℕ → Bool
-someOf test [] = false
-someOf test (a ∷ rest) = test a || someOf test rest
-
+-- a number of a list that passes a test
 some-of : (test : ℕ → Bool) (xs : List ℕ) (a : ℕ) → T (among a xs) → T (test a) → T (someOf test xs)
 some-of test [] a h p = h
 some-of test (x ∷ xs) a h p = go (or-cases (eqb a x) (among a xs) h) (some-of test xs a)
@@ -57,7 +53,7 @@ module _ (left-out : Clause) (t : Tables) (document : ℕ) where
 
   -- The subject owns one of them, and the lines allow it to edit one.
   abbrev ownsList : ℕ → Bool
-  ownsList s = someOf (λ a. eqb s (itemIn (t .items) a .owner .0)) lists
+  ownsList s = someOf (λ a. eqb s (ownerOf t a)) lists
 
   abbrev editsSome : ℕ → Bool
   editsSome s = someOf (λ a. has editList (linesPart t s a)) lists
@@ -74,7 +70,7 @@ module _ (left-out : Clause) (t : Tables) (document : ℕ) where
   abbrev pub apart : ℕ → Bool
   apart s =
       orIf (same-clause left-out Clause.custodian-inside) (not (eqb s custodian))
-      && orIf (same-clause left-out Clause.document-owner-inside) (not (eqb s (itemIn (t .items) document .owner .0)))
+      && orIf (same-clause left-out Clause.document-owner-inside) (not (eqb s (ownerOf t document)))
       && orIf (same-clause left-out Clause.list-owner-inside) (not (ownsList s))
       && orIf (same-clause left-out Clause.editor-inside) (not (editsList s))
 
@@ -121,12 +117,12 @@ module _ (left-out : Clause) (t : Tables) (document : ℕ) where
   inside-fails : {s : ℕ} → T (apart s) → (i : Insider t document s) → ¬ Counted (clausesOf i)
   inside-fails p the-custodian c = fails Clause.custodian-inside (eqb 0 custodian) (search (and-l, and-r)) (c .0) tt
   inside-fails p (owns-document the-document) c =
-      let owner : ℕ = itemIn (t .items) document .owner .0 in
+      let owner : ℕ = ownerOf t document in
       fails Clause.document-owner-inside (eqb owner owner) (search (and-l, and-r)) (c .0) (eqb-refl owner)
   inside-fails p (owns-list {a} f) c =
-      let owner : ℕ = itemIn (t .items) a .owner .0 in
+      let owner : ℕ = ownerOf t a in
       fails Clause.list-owner-inside (ownsList owner) (search (and-l, and-r)) (c .0)
-      (some-of (λ b. eqb owner (itemIn (t .items) b .owner .0)) lists a (followed-in f (c .1)) (eqb-refl owner))
+      (some-of (λ b. eqb owner (ownerOf t b)) lists a (followed-in f (c .1)) (eqb-refl owner))
   inside-fails p (may-edit {a} {s} f allowed) c =
       fails Clause.editor-inside (editsList s) (search (and-l, and-r)) (c .0)
       (and-i (countsAsEditor (same-clause left-out Clause.editor-without-operation) s) (editsSome s)

@@ -1,13 +1,11 @@
 // The questions of the calls that change grants, after those of the image. Each function answers the first no, or where the grant goes.
 ghost use mathlib.Core.Bool.{_||_, not};
-ghost use mathlib.Core.List.{[], _∷_};
 ghost use mathlib.Core.Path.{_≡_};
 ghost use lib.Dec.{eqb, ltb};
 ghost use Rattle.model.specs.WhoAndWhat.{custodian};
-ghost use Rattle.model.specs.Image.{tablesBy, roomsBy, grantKey};
+ghost use Rattle.model.specs.Image.{tablesBy, roomsBy};
 ghost use Rattle.model.specs.Calls.Change.{setGrant, removeGrant};
-ghost use Rattle.model.specs.Questions.{questions, firstNo};
-ghost use Rattle.spots.specs.Spots.{isOver, spotIn, asked};
+ghost use Rattle.spots.specs.Spots.{isOver, grantSpotOf};
 ghost use Rattle.questions_grants.specs.GivenAt.{givenAt};
 use codec::read_rows::grant_at;
 use model::CUSTODIAN;
@@ -30,7 +28,7 @@ pub fn set_grant_spot(
     role: Role,
     domain: Subject,
 ) -> Spot
-    ensures { λ r. ⌜ r ≡ asked (firstNo (questions (tablesBy layout (now (image .entry))) (setGrant (caller .0) (receiver .0) (role .0) (domain .0) 0))) (spotIn grantKey (receiver .0 ∷ role .0 ∷ []) (tablesBy layout (now (image .entry)) .grants)) ⌝ }
+    ensures { λ r. ⌜ r ≡ grantSpotOf (tablesBy layout (now (image .entry))) (setGrant (caller .0) (receiver .0) (role .0) (domain .0) 0) (receiver .0) (role .0) ⌝ }
 {
     if !subject_used(image, layout, caller) {
         return Spot::Refused(refusal::CALLER);
@@ -65,7 +63,7 @@ pub fn remove_grant_spot(
     receiver: Subject,
     role: Role,
 ) -> Spot
-    ensures { λ r. ⌜ r ≡ asked (firstNo (questions (tablesBy layout (now (image .entry))) (removeGrant (caller .0) (receiver .0) (role .0)))) (spotIn grantKey (receiver .0 ∷ role .0 ∷ []) (tablesBy layout (now (image .entry)) .grants)) ⌝ }
+    ensures { λ r. ⌜ r ≡ grantSpotOf (tablesBy layout (now (image .entry))) (removeGrant (caller .0) (receiver .0) (role .0)) (receiver .0) (role .0) ⌝ }
 {
     if !subject_used(image, layout, caller) {
         return Spot::Refused(refusal::CALLER);
@@ -111,18 +109,18 @@ fn may_set(image: &[u8], layout: Layout, spot: Spot, caller: Subject) -> bool
 fn has_room(layout: Layout, spot: Spot) -> bool
     ensures { λ r. ⌜ r ≡ (isOver spot || ltb (layout .grants .used) (roomsBy layout .grants)) ⌝ }
 {
-    if !spot.is_over() {
-        return grant_free(layout);
+    if spot.is_over() {
+        return true;
     }
-    true
+    grant_free(layout)
 }
 
 // The custodian may remove any row.
 fn may_remove(image: &[u8], layout: Layout, spot: Spot, caller: Subject) -> bool
     ensures { λ r. ⌜ r ≡ (givenAt (tablesBy layout (now (image .entry)) .grants) (caller .0) spot || eqb (caller .0) custodian) ⌝ }
 {
-    if !given_by(image, layout, spot, caller) {
-        return caller.0 == CUSTODIAN;
+    if given_by(image, layout, spot, caller) {
+        return true;
     }
-    true
+    caller.0 == CUSTODIAN
 }

@@ -1,14 +1,13 @@
 // The questions of the calls that change lines, after those of the image. Each function answers the first no, or where the line goes: the search
 // that the last question makes is the one that the change needs.
 ghost use mathlib.Core.Bool.{_||_};
-ghost use mathlib.Core.List.{[], _∷_};
 ghost use mathlib.Core.Path.{_≡_};
 ghost use lib.Dec.{ltb};
 ghost use lib.ListN.{take};
-ghost use Rattle.model.specs.Image.{tablesBy, roomsBy, lineKey};
+ghost use Rattle.model.specs.Image.{tablesBy, roomsBy};
 ghost use Rattle.model.specs.Calls.Change.{setLine, removeLine};
 ghost use Rattle.model.specs.Questions.{questions, firstNo};
-ghost use Rattle.spots.specs.Spots.{isOver, spotIn, asked};
+ghost use Rattle.spots.specs.Spots.{isOver, lineSpotOf};
 use decision::permissions;
 use keys::lines::kind_fits;
 use model::Item;
@@ -36,7 +35,7 @@ pub fn set_line_spot(
     kind: u32,
     subject: Subject,
 ) -> Spot
-    ensures { λ r. ⌜ r ≡ asked (firstNo (questions (tablesBy layout (now (image .entry))) (setLine (caller .0) (role .0) (list .0) kind (subject .0) 0))) (spotIn lineKey (list .0 ∷ kind ∷ subject .0 ∷ []) (tablesBy layout (now (image .entry)) .lines)) ⌝ }
+    ensures { λ r. ⌜ r ≡ lineSpotOf (tablesBy layout (now (image .entry))) (setLine (caller .0) (role .0) (list .0) kind (subject .0) 0) (list .0) kind (subject .0) ⌝ }
 {
     let number = named_refusal(image, layout, caller, list, kind, subject);
     if number != 0 {
@@ -65,7 +64,7 @@ pub fn remove_line_spot(
     kind: u32,
     subject: Subject,
 ) -> Spot
-    ensures { λ r. ⌜ r ≡ asked (firstNo (questions (tablesBy layout (now (image .entry))) (removeLine (caller .0) (role .0) (list .0) kind (subject .0)))) (spotIn lineKey (list .0 ∷ kind ∷ subject .0 ∷ []) (tablesBy layout (now (image .entry)) .lines)) ⌝ }
+    ensures { λ r. ⌜ r ≡ lineSpotOf (tablesBy layout (now (image .entry))) (removeLine (caller .0) (role .0) (list .0) kind (subject .0)) (list .0) kind (subject .0) ⌝ }
 {
     let number = named_refusal(image, layout, caller, list, kind, subject);
     if number != 0 {
@@ -114,8 +113,8 @@ fn named_refusal(
 fn has_room(layout: Layout, spot: Spot) -> bool
     ensures { λ r. ⌜ r ≡ (isOver spot || ltb (layout .lines .used) (roomsBy layout .lines)) ⌝ }
 {
-    if !spot.is_over() {
-        return line_free(layout);
+    if spot.is_over() {
+        return true;
     }
-    true
+    line_free(layout)
 }

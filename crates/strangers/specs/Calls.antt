@@ -26,7 +26,7 @@ use Rattle.laws.specs.Sorted.{All-put, All-cut, same-or-not, find-put-other, fi
 use Rattle.laws.specs.Numbered.{subject-same, item-same, item-other, length-set-item}
 use Rattle.laws.specs.WellFormed.{WellFormed, Passed}
 use Rattle.laws.specs.Kept.{grants-ascending, lines-ascending}
-use Rattle.strangers.specs.Sequences.{Followed, Stranger}
+use Rattle.strangers.specs.Sequences.{ownerOf, Followed, Stranger}
 use Rattle.strangers.specs.Sequences.Insider.{the-custodian}
 use Rattle.strangers.specs.Watched.{Watched, watched-owner, watched-used}
 use Rattle.strangers.specs.Untouched.{Given, Untouched, item-still, no-editor}
@@ -119,13 +119,13 @@ module _ (t : Tables) (document : ℕ) where
     -- who may bind an item is its owner or the custodian
     not-watched : (c i : ℕ) → Stranger t document c → T (mayBind u c i) → ¬ Watched t document i
     not-watched c i stranger may w =
-        go (or-cases (eqb c (itemIn (u .items) i .owner .0) && not (isLocked (u .items) i)) (eqb c custodian) may)
+        go (or-cases (eqb c (ownerOf u i) && not (isLocked (u .items) i)) (eqb c custodian) may)
       where
-        go : T (eqb c (itemIn (u .items) i .owner .0) && not (isLocked (u .items) i)) ⊎ T (eqb c custodian) → ⊥
+        go : T (eqb c (ownerOf u i) && not (isLocked (u .items) i)) ⊎ T (eqb c custodian) → ⊥
         go (inl owns) =
-            let e : c ≡ itemIn (u .items) i .owner .0 =
-            eqb→eq c (itemIn (u .items) i .owner .0) (and-l (eqb c (itemIn (u .items) i .owner .0)) (not (isLocked (u .items) i)) owns) in
-            let owner : c ≡ itemIn (t .items) i .owner .0 = e ∙ ap (λ (x : ItemRow). x .owner .0) (same .watched-same i w) in
+            let e : c ≡ ownerOf u i =
+            eqb→eq c (ownerOf u i) (and-l (eqb c (ownerOf u i)) (not (isLocked (u .items) i)) owns) in
+            let owner : c ≡ ownerOf t i = e ∙ ap (λ (x : ItemRow). x .owner .0) (same .watched-same i w) in
             (rw owner at stranger) .outside (watched-owner t document w)
         go (inr e) = not-custodian c stranger (eqb→eq c custodian e)
 

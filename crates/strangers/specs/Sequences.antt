@@ -12,7 +12,7 @@ use Rattle.model.specs.Image.{Tables, tables, itemIn, subjectUsed, itemUsed}
 use Rattle.model.specs.Permission.{linesPart, grantOf, permissionSet}
 use Rattle.model.specs.Calls.{Ask, Change, callerOf, Handed}
 use Rattle.model.specs.Calls.Ask.{permissionSetOf}
-use Rattle.model.specs.Questions.{Accepted, ask, act}
+use Rattle.model.specs.Questions.{answer, Accepted, ask, act}
 
 -- The calls that never write the image.
 pub data Reading : Type 0 where
@@ -37,6 +37,13 @@ writing [] = []
 writing (changes c ∷ steps) = c ∷ writing steps
 writing (reads q ∷ steps) = writing steps
 
+-- the access list that controls an item, and the item's owner
+abbrev pub listOf : Tables → ℕ → ℕ
+listOf t i = itemIn (t .items) i .list .0
+
+abbrev pub ownerOf : Tables → ℕ → ℕ
+ownerOf t i = itemIn (t .items) i .owner .0
+
 -- Who is who for a document. t are the tables at the stop.
 module _ (t : Tables) (document : ℕ) where
   -- The items that are followed from: the document.
@@ -45,14 +52,14 @@ module _ (t : Tables) (document : ℕ) where
 
   -- The followed lists: the document's access list, that list's own list, and on until none or a repeat.
   pub data Followed : ℕ → Type 0 where
-    its-list : {d : ℕ} → Start d → itemIn (t .items) d .list .0 ≢ 0 → Followed (itemIn (t .items) d .list .0)
-    list-of : {a : ℕ} → Followed a → itemIn (t .items) a .list .0 ≢ 0 → Followed (itemIn (t .items) a .list .0)
+    its-list : {d : ℕ} → Start d → listOf t d ≢ 0 → Followed (listOf t d)
+    list-of : {a : ℕ} → Followed a → listOf t a ≢ 0 → Followed (listOf t a)
 
   -- Insiders: the custodian, the owners of the document and of the followed lists, and whoever those lists' lines allow to edit any of them.
   pub data Insider : ℕ → Type 0 where
     the-custodian : Insider custodian
-    owns-document : {d : ℕ} → Start d → Insider (itemIn (t .items) d .owner .0)
-    owns-list : {a : ℕ} → Followed a → Insider (itemIn (t .items) a .owner .0)
+    owns-document : {d : ℕ} → Start d → Insider (ownerOf t d)
+    owns-list : {a : ℕ} → Followed a → Insider (ownerOf t a)
     may-edit : {a s : ℕ} → Followed a → T (has editList (linesPart t s a)) → Insider s
 
   -- A stranger is present, is no insider, and holds no role granted by one.
@@ -76,8 +83,8 @@ pub record Covered (stop : List ℕ) (second : List Step) (asker role document :
 -- The permission set is the same in both images, and asking for it is answered by number 0 and that set on both.
 pub record Unchanged (stop later : List ℕ) (asker role document : ℕ) : Type 0 where
   pub set-same : permissionSet (tables later) asker role document ≡ permissionSet (tables stop) asker role document
-  pub answer-then : ask stop (permissionSetOf asker role document) ≡ record { number = 0; result = permissionSet (tables stop) asker role document }
-  pub answer-later : ask later (permissionSetOf asker role document) ≡ record { number = 0; result = permissionSet (tables stop) asker role document }
+  pub answer-then : ask stop (permissionSetOf asker role document) ≡ answer 0 (permissionSet (tables stop) asker role document)
+  pub answer-later : ask later (permissionSetOf asker role document) ≡ answer 0 (permissionSet (tables stop) asker role document)
 
 -- Demand 3: one claim about both sequences as wholes.
 abbrev pub Demand3 : Type 0

@@ -21,7 +21,7 @@ use Rattle.laws.specs.Sets.{has-or, has-and}
 use Rattle.laws.specs.WellFormed.{WellFormed}
 use Rattle.laws.specs.Tree.{tree-same, group-same}
 use Rattle.laws.specs.Kept.{grant-rules}
-use Rattle.strangers.specs.Sequences.{Followed, Insider, Stranger}
+use Rattle.strangers.specs.Sequences.{listOf, ownerOf, Followed, Insider, Stranger}
 use Rattle.strangers.specs.Sequences.Start.{the-document}
 use Rattle.strangers.specs.Sequences.Insider.{may-edit}
 use Rattle.strangers.specs.Watched.{Watched, watched-list, owner-used}
@@ -91,15 +91,15 @@ module _ (t : Tables) (document : ℕ) where
     pub part-same : (s i : ℕ) → T (subjectUsed (t .subjects) s) → Watched t document i → linesPart u s i ≡ linesPart t s i
     unfolding partOf directLine
     part-same s i present w =
-        let agree : (k x : ℕ) → lineIn (u .lines) (itemIn (t .items) i .list .0) k x ≡ lineIn (t .lines) (itemIn (t .items) i .list .0) k x =
-        own-lines-agree (itemIn (t .items) i .list .0) (watched-list t document w) in
+        let agree : (k x : ℕ) → lineIn (u .lines) (listOf t i) k x ≡ lineIn (t .lines) (listOf t i) k x =
+        own-lines-agree (listOf t i) (watched-list t document w) in
         rw (
           same .watched-same i w,
           agree ownerKind 0,
           agree itselfKind s,
           agree everyoneKind 0,
           group-same (parentIn (u .subjects)) (parentIn (t .subjects)) (length (t .subjects)) parents-agree
-              (u .lines) (t .lines) (itemIn (t .items) i .list .0) agree s (search ltb→lt),
+              (u .lines) (t .lines) (listOf t i) agree s (search ltb→lt),
         )
 
     -- a found grant was given
@@ -117,7 +117,7 @@ module _ (t : Tables) (document : ℕ) where
       lent-none : (o : Option GrantRow) (r : ℕ) → IfSome (λ g. Given g × (grantKey g ≡ c ∷ r ∷ [])) o → ¬ T (has editList (lentPart u a o))
       unfolding has
       lent-none none r p allowed = allowed
-      lent-none (some g) r p allowed = go (inTree (parentIn (u .subjects)) (g .domain .0) (itemIn (u .items) a .owner .0)) allowed
+      lent-none (some g) r p allowed = go (inTree (parentIn (u .subjects)) (g .domain .0) (ownerOf u a)) allowed
         where
           received : Stranger t document (g .receiver .0)
           received = let holder : g .receiver .0 ≡ c = cc (p .1) in rw holder stranger
@@ -159,7 +159,7 @@ module _ (t : Tables) (document : ℕ) where
           rw (
             part-same (g .grantor .0) document p (start the-document),
             the-item,
-            tree-same (parentIn (u .subjects)) (parentIn (t .subjects)) (length (t .subjects)) parents-agree (g .domain .0) (itemIn (t .items) document .owner .0)
+            tree-same (parentIn (u .subjects)) (parentIn (t .subjects)) (length (t .subjects)) parents-agree (g .domain .0) (ownerOf t document)
                 (search (ltb→lt, owner-used)),
           )
 

@@ -11,18 +11,19 @@ use borrow.Author.Tests.{eq-eqb}
 use lib.Dec.{T, eqb, eqb→eq, eqb-refl, eqb·suc-zero}
 use lib.ListN.{length, List·getD-eq-default}
 use Rattle.model.specs.Lists.{All}
-use Rattle.model.specs.Image.{Tables, itemIn, noItem}
+use Rattle.model.specs.Image.{Tables, noItem}
 use Rattle.laws.specs.Tests.{two, or-l, or-r, or-cases, eq-or-ne, le-or-lt, true-T, All-map}
-use Rattle.strangers.specs.Sequences.{Followed}
+use Rattle.strangers.specs.Sequences.{listOf, Followed}
 use Rattle.strangers.specs.Sequences.Start.{the-document}
 use Rattle.strangers.specs.Sequences.Followed.{its-list, list-of}
 
-abbrev pub among : ℕ → List ℕ → Bool
-among a [] = false
-among a (x ∷ xs) = eqb a x || among a xs
+-- some number of a list passes a test; a is a number of it
+abbrev pub someOf : (ℕ → Bool) → List ℕ → Bool
+someOf test [] = false
+someOf test (x ∷ xs) = test x || someOf test xs
 
-abbrev pub listOf : Tables → ℕ → ℕ
-listOf t i = itemIn (t .items) i .list .0
+abbrev pub among : ℕ → List ℕ → Bool
+among a = someOf (eqb a)
 
 -- The lists met, from list a on, after those met before. With more steps than there are items the walk is not cut short.
 unfoldable pub walk : Tables → ℕ → List ℕ → ℕ → List ℕ

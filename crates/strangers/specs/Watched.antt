@@ -8,7 +8,7 @@ use Rattle.model.specs.Image.{Tables, subjectUsed, itemIn, itemUsed, isList, no
 use Rattle.laws.specs.Tests.{and-l, and-r, or-cases, eq-or-ne}
 use Rattle.laws.specs.WellFormed.{WellFormed}
 use Rattle.laws.specs.Kept.{GoodItem, item-good}
-use Rattle.strangers.specs.Sequences.{Start, Followed, Insider}
+use Rattle.strangers.specs.Sequences.{listOf, ownerOf, Start, Followed, Insider}
 use Rattle.strangers.specs.Sequences.Start.{the-document}
 use Rattle.strangers.specs.Sequences.Followed.{its-list, list-of}
 use Rattle.strangers.specs.Sequences.Insider.{owns-document, owns-list}
@@ -18,29 +18,29 @@ pub data Watched (t : Tables) (document : ℕ) : ℕ → Type 0 where
   list : {a : ℕ} → Followed t document a → Watched t document a
 
 module _ (t : Tables) (document : ℕ) where
-  pub watched-owner : {i : ℕ} → Watched t document i → Insider t document (itemIn (t .items) i .owner .0)
+  pub watched-owner : {i : ℕ} → Watched t document i → Insider t document (ownerOf t i)
   watched-owner (Watched.start d) = search owns-document
   watched-owner (Watched.list a) = search owns-list
 
-  followed-list : {i : ℕ} → Watched t document i → itemIn (t .items) i .list .0 ≢ 0 → Followed t document (itemIn (t .items) i .list .0)
+  followed-list : {i : ℕ} → Watched t document i → listOf t i ≢ 0 → Followed t document (listOf t i)
   followed-list (Watched.start d) some-list = search its-list
   followed-list (Watched.list a) some-list = search list-of
 
-  pub watched-list : {i : ℕ} → Watched t document i → (itemIn (t .items) i .list .0 ≡ 0) ⊎ Followed t document (itemIn (t .items) i .list .0)
-  watched-list {i} w = elim (eq-or-ne (itemIn (t .items) i .list .0) 0) [ inl e ↦ inl e | inr d ↦ inr (followed-list w d) ]
+  pub watched-list : {i : ℕ} → Watched t document i → (listOf t i ≡ 0) ⊎ Followed t document (listOf t i)
+  watched-list {i} w = elim (eq-or-ne (listOf t i) 0) [ inl e ↦ inl e | inr d ↦ inr (followed-list w d) ]
 
   module _ (well : WellFormed t) (present : T (itemUsed (t .items) document)) where
     -- an item in use has for its list none or one in use
-    list-used : (i : ℕ) → T (itemUsed (t .items) i) → itemIn (t .items) i .list .0 ≢ 0 → T (itemUsed (t .items) (itemIn (t .items) i .list .0))
+    list-used : (i : ℕ) → T (itemUsed (t .items) i) → listOf t i ≢ 0 → T (itemUsed (t .items) (listOf t i))
     list-used i used some-list =
         let good : GoodItem t i (itemIn (t .items) i) = item-good t well i used in
-        let rule : T (noneOrList (t .items) (itemIn (t .items) i .list .0)) = search (and-l, and-r) in
-        go (or-cases (eqb (itemIn (t .items) i .list .0) 0) (isList (t .items) (itemIn (t .items) i .list .0)) rule)
+        let rule : T (noneOrList (t .items) (listOf t i)) = search (and-l, and-r) in
+        go (or-cases (eqb (listOf t i) 0) (isList (t .items) (listOf t i)) rule)
       where
-        go : T (eqb (itemIn (t .items) i .list .0) 0) ⊎ T (isList (t .items) (itemIn (t .items) i .list .0))
-            → T (itemUsed (t .items) (itemIn (t .items) i .list .0))
-        go (inl e) = absurd (some-list (eqb→eq (itemIn (t .items) i .list .0) 0 e))
-        go (inr l) = and-l (itemUsed (t .items) (itemIn (t .items) i .list .0)) (has 0 (itemIn (t .items) (itemIn (t .items) i .list .0) .flags)) l
+        go : T (eqb (listOf t i) 0) ⊎ T (isList (t .items) (listOf t i))
+            → T (itemUsed (t .items) (listOf t i))
+        go (inl e) = absurd (some-list (eqb→eq (listOf t i) 0 e))
+        go (inr l) = and-l (itemUsed (t .items) (listOf t i)) (has 0 (itemIn (t .items) (listOf t i) .flags)) l
 
     start-used : {d : ℕ} → Start t document d → T (itemUsed (t .items) d)
     start-used the-document = present
@@ -54,7 +54,7 @@ module _ (t : Tables) (document : ℕ) where
     watched-used (Watched.list a) = followed-used a
 
     -- the owner of an item in use is a subject in use
-    pub owner-used : T (subjectUsed (t .subjects) (itemIn (t .items) document .owner .0))
+    pub owner-used : T (subjectUsed (t .subjects) (ownerOf t document))
     owner-used =
         let good : GoodItem t document (itemIn (t .items) document) = item-good t well document present in
         search (and-l, and-r)
