@@ -3,6 +3,7 @@
 pub use asking_editor::find_editor;
 pub use asking_lines::count_lines;
 pub use asking_lines::lines_of;
+pub use asking_lines::lines_start;
 pub use asking_sets::check_image;
 pub use asking_sets::operation_set;
 pub use asking_sets::permission_set;

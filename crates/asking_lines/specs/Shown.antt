@@ -140,10 +140,13 @@ module _ (img : List ℕ) (a number first end : ℕ) (shown : Shown img a number
     unfolding partLength
     none-bytes = rw hidden
 
+    pub none-start : 0 ≡ partStart img a
+    unfolding partStart
+    none-start = rw hidden
+
     -- p is where the image stands
     pub none-at : (p : ℕ) → p ≡ partStart img a + p
-    unfolding partStart
-    none-at p = rw hidden (sym (zero-add p))
+    none-at p = rw (← none-start) (sym (zero-add p))
 
   module _ (some : first < end) where
     passed : number ≡ 0
@@ -166,27 +169,31 @@ module _ (img : List ℕ) (a number first end : ℕ) (shown : Shown img a number
         let rows : length (rowsOf a (tables img .lines)) ≡ end - first = omega (arith, shown .counts passed) in
         rw (visible, rows)
 
-    -- e is the place of the end and s that of the first row, by a layout
-    module _ (lay : Layout) (there : lay ≡ layoutOf img) (e : ℕ) (to : e ≡ lay .lines .start + end * size (lineFormat (widthOf lay))) where
-      to-is : e ≡ layoutOf img .lines .start + end * lineSize img
-      to-is = to ∙ ap (λ (l : Layout). l .lines .start + end * size (lineFormat (widthOf l))) there
-
-      pub some-inside : e ≤ length img
-      some-inside = omega (arith, to-is, shown .inside passed)
-
+    -- s is the place of the first row and e that of the end, by a layout
+    module _ (lay : Layout) (there : lay ≡ layoutOf img) where
       module _ (s : ℕ) (from : s ≡ lay .lines .start + first * size (lineFormat (widthOf lay))) where
         from-is : s ≡ layoutOf img .lines .start + first * lineSize img
         from-is = from ∙ ap (λ (l : Layout). l .lines .start + first * size (lineFormat (widthOf l))) there
 
-        pub some-at : (p : ℕ) → s + p ≡ partStart img a + p
-        some-at p = ap (λ (k : ℕ). k + p) (from-is ∙ sym some-start)
+        pub starts-at : s ≡ partStart img a
+        starts-at = from-is ∙ sym some-start
 
-        pub some-bytes : take (e - s) (drop s img) ≡ partBytes img a
-        some-bytes =
+        pub some-at : (p : ℕ) → s + p ≡ partStart img a + p
+        some-at p = ap (λ (k : ℕ). k + p) starts-at
+
+      module _ (e : ℕ) (to : e ≡ lay .lines .start + end * size (lineFormat (widthOf lay))) where
+        to-is : e ≡ layoutOf img .lines .start + end * lineSize img
+        to-is = to ∙ ap (λ (l : Layout). l .lines .start + end * size (lineFormat (widthOf l))) there
+
+        pub some-inside : e ≤ length img
+        some-inside = omega (arith, to-is, shown .inside passed)
+
+        pub some-bytes : (s : ℕ) → s ≡ lay .lines .start + first * size (lineFormat (widthOf lay)) → take (e - s) (drop s img) ≡ partBytes img a
+        some-bytes s from =
             let split : end * lineSize img ≡ first * lineSize img + (end - first) * lineSize img =
             ap (λ (k : ℕ). k * lineSize img) (sum first end (omega arith)) ∙ add-mul first (end - first) (lineSize img) in
-            let long : e - s ≡ (end - first) * lineSize img = omega (arith, from-is, to-is, split) in
-            rw (some-start, some-length, ← from-is, long)
+            let long : e - s ≡ (end - first) * lineSize img = omega (arith, from-is s from, to-is, split) in
+            rw (some-start, some-length, ← from-is s from, long)
           where
             sum : (x y : ℕ) → x ≤ y → y ≡ x + (y - x)
             sum x y h = omega arith

@@ -38,3 +38,15 @@ pub fn lines_of<'a>(image: &'a [u8], list: Item) -> &'a [u8]
     let end = line_place(layout, rows.end);
     &image[start..end]
 }
+
+// Lines of a list, where the rows begin: the byte of the image at which that part starts, for a host that cannot be handed the part itself. Refused, or without
+// rows, it is 0.
+pub fn lines_start(image: &[u8], list: Item) -> usize
+    ensures { λ r. ⌜ r ≡ partStart (now (image .entry)) (list .0) ⌝ }
+{
+    let rows = shown_rows(image, list);
+    if rows.first < rows.end {
+        return line_place(layout_of(image), rows.first);
+    }
+    0
+}

@@ -1,0 +1,104 @@
+/*
+ * The access tables of a document library: who may read, replace or discard which document.
+ *
+ * The tables live in one image, bytes that the host lends to every call: 36 to 65,536 of them, whatever they hold. Every call
+ * takes any bytes and any numbers. It answers number 0 and its result, or the number of the first question of document 01's
+ * list that is answered no, and result 0; README.md has a table of these numbers. A refused call changes no byte of the image,
+ * and a call that takes the image as const never does.
+ *
+ * What the host sees to: `image` points to `length` bytes and is not a null pointer, also where length is 0; nobody else writes
+ * them during a call. Calls keep nothing between them and may run at the same time on different images, and calls that take the
+ * image as const on the same one.
+ */
+#ifndef DACM_H
+#define DACM_H
+
+#include <stddef.h>
+#include <stdint.h>
+
+#ifdef __cplusplus
+extern "C" {
+#endif
+
+/* A subject, a role and an item are each a number, and a type of their own: none passes for another. */
+typedef struct { uint32_t number; } dacm_subject; /* 0 is the custodian */
+typedef struct { uint32_t number; } dacm_role;    /* 0 is no role */
+typedef struct { uint32_t number; } dacm_item;    /* items count from 1; as a list, 0 is none */
+
+typedef struct { uint32_t number; uint32_t result; } dacm_answer;
+
+/* Privileges: bit n of a set is position n. Positions 7 to 31 are the host's own. */
+#define DACM_READ            UINT32_C(0x01)
+#define DACM_REPLACE         UINT32_C(0x02)
+#define DACM_DISCARD         UINT32_C(0x04)
+#define DACM_ANNOTATE        UINT32_C(0x08)
+#define DACM_CREATE_ITEMS    UINT32_C(0x10)
+#define DACM_DEFINE_SUBJECTS UINT32_C(0x20)
+#define DACM_EDIT_LIST       UINT32_C(0x40)
+#define DACM_ALL             UINT32_C(0xffffffff)
+
+/* The kinds of a line. Lines for the owner and for everyone have subject 0. */
+#define DACM_ITSELF   UINT32_C(0)
+#define DACM_GROUP    UINT32_C(1)
+#define DACM_OWNER    UINT32_C(2)
+#define DACM_EVERYONE UINT32_C(3)
+
+/* The flags of an item. */
+#define DACM_IS_LIST UINT32_C(1)
+#define DACM_LOCKED  UINT32_C(2)
+
+/* The calls that ask. */
+
+/* Is this an image that the other calls work on? */
+dacm_answer dacm_check(const uint8_t *image, size_t length);
+
+/* Result: the operation set of a subject under a role. */
+dacm_answer dacm_operation_set(const uint8_t *image, size_t length, dacm_subject subject, dacm_role role);
+
+/* Result: the permission set of a subject under a role on an item. */
+dacm_answer dacm_permission_set(const uint8_t *image, size_t length, dacm_subject subject, dacm_role role, dacm_item item);
+
+/* Result: how many lines a list has. They stand together in the image, 16 bytes each. */
+dacm_answer dacm_list_count(const uint8_t *image, size_t length, dacm_item list);
+
+/* The byte of the image at which the lines of a list begin; 0 where the call is refused or the list has no lines. */
+size_t dacm_list_start(const uint8_t *image, size_t length, dacm_item list);
+
+/* Result: some subject other than the custodian that may edit a list. Which of several is undecided. */
+dacm_answer dacm_find_editor(const uint8_t *image, size_t length, dacm_item list);
+
+/* The calls that change the tables. */
+
+/* Define a subject below a parent. Result: its number. It holds what the caller's own row also has of the privileges. */
+dacm_answer dacm_define_subject(uint8_t *image, size_t length, dacm_subject caller, dacm_role role, dacm_subject parent,
+                                uint32_t privileges);
+
+/* Grant a role to a receiver, over a domain in the caller's tree. The caller's grant of the same role is overwritten. */
+dacm_answer dacm_set_grant(uint8_t *image, size_t length, dacm_subject caller, dacm_subject receiver, dacm_role role,
+                           dacm_subject domain, uint32_t privileges);
+
+/* Take a role back from its receiver. */
+dacm_answer dacm_remove_grant(uint8_t *image, size_t length, dacm_subject caller, dacm_subject receiver, dacm_role role);
+
+/* Set a line of a list. The list's line of the same kind for the same subject is overwritten. */
+dacm_answer dacm_set_line(uint8_t *image, size_t length, dacm_subject caller, dacm_role role, dacm_item list, uint32_t kind,
+                          dacm_subject subject, uint32_t privileges);
+
+/* Remove a line of a list. */
+dacm_answer dacm_remove_line(uint8_t *image, size_t length, dacm_subject caller, dacm_role role, dacm_item list, uint32_t kind,
+                             dacm_subject subject);
+
+/* Create an item that the caller owns, governed by a list or by none. Result: its number. */
+dacm_answer dacm_create_item(uint8_t *image, size_t length, dacm_subject caller, dacm_role role, dacm_item list, uint32_t flags);
+
+/* Bind an item to a list, or to none. */
+dacm_answer dacm_bind(uint8_t *image, size_t length, dacm_subject caller, dacm_item item, dacm_item list);
+
+/* Hand an item over to a new owner. */
+dacm_answer dacm_hand_over(uint8_t *image, size_t length, dacm_subject caller, dacm_item item, dacm_subject owner);
+
+#ifdef __cplusplus
+}
+#endif
+
+#endif
