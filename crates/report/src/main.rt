@@ -1,0 +1,53 @@
+// Reads an image from standard input and prints each subject's set on each item under role 0, or the refusal. The image is checked once, and the text is written a page at a
+// time; what it says is decided in `reporting`.
+ghost use Prim.Native.Nat.{_≤_};
+ghost use lib.ListN.{length};
+use acceptance::check;
+use codec::header::layout_of;
+use model::Layout;
+use reporting::PAGE;
+use reporting::PAGE_LINES;
+use reporting::first_line;
+use reporting::line_count;
+use reporting::lines_page;
+
+// One byte more than the longest image, so that a longer input is seen to be too long.
+const INPUT: usize = 65537;
+
+fn main() {
+    let mut input = [0u8; INPUT];
+    let length = io::read_full(0, &mut input);
+    let mut page = [0u8; PAGE];
+    print_report(&input[..length], &mut page);
+}
+
+fn print_report(image: &[u8], page: &mut [u8; PAGE]) {
+    let number = check(image);
+    let start = first_line(number, page);
+    if !write_from(page, start) {
+        return;
+    }
+    if number == 0 {
+        print_lines(image, layout_of(image), page);
+    }
+}
+
+// Stops where nobody reads any more.
+fn print_lines(image: &[u8], layout: Layout, page: &mut [u8; PAGE]) {
+    let count = line_count(image, layout);
+    let mut first = 0;
+    while first < count {
+        let start = lines_page(image, layout, first, page);
+        if !write_from(page, start) {
+            return;
+        }
+        first += PAGE_LINES;
+    }
+}
+
+// The text that a page ends in.
+fn write_from(page: &[u8], start: usize) -> bool
+    requires { ⌜ start ≤ length (now page) ⌝ }
+{
+    io::write_all(1, &page[start..])
+}

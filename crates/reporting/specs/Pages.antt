@@ -1,0 +1,45 @@
+-- The report as the code writes it: its first line, and its other lines by their number, so many to a page. `Whole` shows that these are the report.
+use mathlib.Core.Bool.{cond}
+use mathlib.Core.List.{List, [], _∷_, _++_}
+use Prim.Native.Nat.{ℕ, zero, suc, _+_, _-_, _*_, _/_, _%_, min}
+use lib.Dec.{eqb}
+use lib.ListN.{length, take, drop}
+use Rattle.model.specs.Image.{Tables}
+use Rattle.model.specs.Permission.{permissionSet}
+use Rattle.reporting.specs.Report.{setLine, heading, refusedLine}
+
+-- the first line, by what the check said
+unfoldable pub firstLine : ℕ → List ℕ
+firstLine number = cond (eqb number 0) heading (refusedLine number)
+
+-- how many lines come after it, numbered from 0
+abbrev pub lineCount : Tables → ℕ
+lineCount t = length (t .subjects) * length (t .items)
+
+-- Line k: of each subject as many lines as there are items.
+unfoldable pub lineAt : Tables → ℕ → List ℕ
+lineAt t k = setLine (k / length (t .items)) (k % length (t .items) + 1) (permissionSet t (k / length (t .items)) 0 (k % length (t .items) + 1))
+
+-- n lines from line k on
+unfoldable pub linesFrom : Tables → ℕ → ℕ → List ℕ
+linesFrom t k zero = []
+linesFrom t k (suc n) = lineAt t k ++ linesFrom t (suc k) n
+
+-- A page begins at any line, and has so many lines or those that are left.
+abbrev pub pageLines : ℕ
+pageLines = 1040
+
+abbrev pub pageSize : ℕ
+pageSize = 65536
+
+unfoldable pub page : Tables → ℕ → List ℕ
+page t k = linesFrom t k (min (lineCount t - k) pageLines)
+
+-- bytes with a text at their end
+unfoldable pub endingIn : List ℕ → List ℕ → List ℕ
+endingIn bytes text = take (length bytes - length text) bytes ++ text
+
+-- m pages from line k on
+unfoldable pub pagesFrom : Tables → ℕ → ℕ → List ℕ
+pagesFrom t k zero = []
+pagesFrom t k (suc m) = page t k ++ pagesFrom t (k + pageLines) m
