@@ -1,15 +1,26 @@
-// Numbers and answers on standard output.
+// Words, numbers and answers on standard output.
+use asking::check_image;
 use model::Answer;
 
-// The number and the result of a call, which end a line.
-pub fn print_answer(answer: Answer) {
-    print_number(answer.number);
-    io::print_decimal(1, answer.result as u64);
-    io::write_all(1, b"\n");
+// A number behind its name.
+pub fn print_number(name: &[u8], n: u32) {
+    io::write_all(1, name);
+    io::print_decimal(1, n as u64);
 }
 
-// A number and a space behind it.
-pub fn print_number(n: u32) {
-    io::print_decimal(1, n as u64);
-    io::write_all(1, b" ");
+// What came back.
+pub fn print_answer(answer: Answer) {
+    print_number(b": number ", answer.number);
+    print_number(b" result ", answer.result);
+}
+
+// What came back from a call that may have written, and whether the image is still accepted.
+pub fn print_outcome(answer: Answer, image: &[u8]) {
+    print_answer(answer);
+    let checked = check_image(image);
+    print_number(b" check ", checked.number);
+}
+
+pub fn end_line() {
+    io::write_all(1, b"\n");
 }

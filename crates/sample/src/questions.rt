@@ -1,0 +1,99 @@
+// The calls that only ask, as they are printed: what was asked, then the number and the result.
+use super::printing::end_line;
+use super::printing::print_answer;
+use super::printing::print_number;
+use asking::check_image;
+use asking::count_lines;
+use asking::find_editor;
+use asking::lines_of;
+use asking::lines_start;
+use asking::operation_set;
+use asking::permission_set;
+use fields::put_field;
+use model::Item;
+use model::Role;
+use model::Subject;
+
+// The twelve sets, and one case of each other call.
+pub fn print_questions(image: &[u8]) {
+    print_permission(image, 2, 0, 2);
+    print_permission(image, 2, 0, 3);
+    print_permission(image, 5, 0, 2);
+    print_permission(image, 4, 0, 2);
+    print_permission(image, 4, 7, 2);
+    print_permission(image, 4, 0, 3);
+    print_permission(image, 4, 7, 3);
+    print_permission(image, 4, 9, 2);
+    print_permission(image, 1, 0, 2);
+    print_permission(image, 3, 0, 2);
+    print_permission(image, 2, 0, 4);
+    print_permission(image, 0, 0, 4);
+    ask_operations(image, 4, 7);
+    end_line();
+    print_lines(image, 1);
+    io::write_all(1, b"find_editor list 1");
+    print_answer(find_editor(image, Item(1)));
+    end_line();
+}
+
+// 35 bytes; 36 with no subject; 48 with the custodian only; 65,537.
+pub fn print_checks() {
+    let short = [0u8; 35];
+    let mut empty = [0u8; 36];
+    write_header(&mut empty, 0, 36);
+    let mut custodian = [0u8; 48];
+    write_header(&mut custodian, 1, 48);
+    put_field(&mut custodian, 40, 4294967295);
+    let long = [0u8; 65537];
+    print_check(b"check_image, zeros, bytes ", &short);
+    print_check(b"check_image, no subject, bytes ", &empty);
+    print_check(b"check_image, the custodian only, bytes ", &custodian);
+    print_check(b"check_image, zeros, bytes ", &long);
+}
+
+// The header of an image with room for subjects alone.
+fn write_header(image: &mut [u8], subjects: u32, length: u32) {
+    put_field(image, 0, subjects);
+    put_field(image, 4, 36);
+    put_field(image, 12, length);
+    put_field(image, 20, length);
+    put_field(image, 28, length);
+    put_field(image, 32, length);
+}
+
+fn print_check(name: &[u8], image: &[u8]) {
+    io::write_all(1, name);
+    io::print_decimal(1, image.len() as u64);
+    print_answer(check_image(image));
+    end_line();
+}
+
+pub fn print_permission(image: &[u8], subject: u32, role: u32, item: u32) {
+    ask_permission(image, subject, role, item);
+    end_line();
+}
+
+// A question and its answer, which may follow on a line.
+pub fn ask_permission(image: &[u8], subject: u32, role: u32, item: u32) {
+    print_number(b"permission_set subject ", subject);
+    print_number(b" role ", role);
+    print_number(b" item ", item);
+    print_answer(permission_set(image, Subject(subject), Role(role), Item(item)));
+}
+
+pub fn ask_operations(image: &[u8], subject: u32, role: u32) {
+    print_number(b"operation_set subject ", subject);
+    print_number(b" role ", role);
+    print_answer(operation_set(image, Subject(subject), Role(role)));
+}
+
+// The rows of a list: how many, at which byte they start, and how many bytes the part of the image has.
+fn print_lines(image: &[u8], list: u32) {
+    print_number(b"count_lines list ", list);
+    print_answer(count_lines(image, Item(list)));
+    io::write_all(1, b"; lines_of starts at ");
+    io::print_decimal(1, lines_start(image, Item(list)) as u64);
+    io::write_all(1, b" bytes ");
+    io::print_decimal(1, lines_of(image, Item(list)).len() as u64);
+    end_line();
+}
