@@ -1,0 +1,91 @@
+//! The functions of `dacm.h`, and the only unsafe code of this crate.
+
+use crate::{Flags, Item, Kind, Privileges, Refusal, Role, Subject};
+
+/// What a call answers: number 0 and its result, or the number of a refusal and result 0.
+#[repr(C)]
+#[derive(Clone, Copy)]
+pub(crate) struct Answer {
+    number: u32,
+    result: u32,
+}
+
+impl Answer {
+    /// The outcome of a call that names a result.
+    pub(crate) fn result(self) -> Result<u32, Refusal> {
+        match self.number {
+            0 => Ok(self.result),
+            number => Err(Refusal::from_number(number)
+                .expect("the archive refuses only with numbers that this crate names")),
+        }
+    }
+
+    /// The outcome of a call that names no result.
+    pub(crate) fn done(self) -> Result<(), Refusal> {
+        self.result().map(|_| ())
+    }
+}
+
+/// Declares functions of the header that take the image as const, each with a safe function of its
+/// own.
+macro_rules! calls_that_ask {
+    ($(fn $name:ident = $symbol:ident($($argument:ident: $type:ty),*) -> $answer:ty;)*) => {$(
+        extern "C" {
+            fn $symbol(image: *const u8, length: usize $(, $argument: $type)*) -> $answer;
+        }
+
+        pub(crate) fn $name(image: &[u8] $(, $argument: $type)*) -> $answer {
+            // SAFETY: the header asks that the pointer is not null, that as many bytes as the
+            // length says stand behind it, and that nobody writes them meanwhile. Both come from
+            // one shared slice, whose pointer is not null even where it is empty. The function
+            // takes any bytes and any numbers; it is proved to stay inside the image, to write
+            // nothing, and it keeps no pointer.
+            unsafe { $symbol(image.as_ptr(), image.len() $(, $argument)*) }
+        }
+    )*};
+}
+
+/// Declares functions of the header that write the image, each with a safe function of its own.
+macro_rules! calls_that_change {
+    ($(fn $name:ident = $symbol:ident($($argument:ident: $type:ty),*);)*) => {$(
+        extern "C" {
+            fn $symbol(image: *mut u8, length: usize $(, $argument: $type)*) -> Answer;
+        }
+
+        pub(crate) fn $name(image: &mut [u8] $(, $argument: $type)*) -> Answer {
+            // SAFETY: as for the calls that ask, and the slice is exclusive: nobody else reads or
+            // writes the bytes. The function is proved to stay inside the image when it writes,
+            // too.
+            unsafe { $symbol(image.as_mut_ptr(), image.len() $(, $argument)*) }
+        }
+    )*};
+}
+
+calls_that_ask! {
+    fn check = dacm_check() -> Answer;
+    fn operation_set = dacm_operation_set(subject: Subject, role: Role) -> Answer;
+    fn permission_set = dacm_permission_set(subject: Subject, role: Role, item: Item) -> Answer;
+    fn list_count = dacm_list_count(list: Item) -> Answer;
+    fn list_start = dacm_list_start(list: Item) -> usize;
+    fn find_editor = dacm_find_editor(list: Item) -> Answer;
+}
+
+calls_that_change! {
+    fn define_subject = dacm_define_subject(
+        caller: Subject, role: Role, parent: Subject, privileges: Privileges
+    );
+    fn set_grant = dacm_set_grant(
+        caller: Subject, receiver: Subject, role: Role, domain: Subject, privileges: Privileges
+    );
+    fn remove_grant = dacm_remove_grant(caller: Subject, receiver: Subject, role: Role);
+    fn set_line = dacm_set_line(
+        caller: Subject, role: Role, list: Item, kind: Kind, subject: Subject,
+        privileges: Privileges
+    );
+    fn remove_line = dacm_remove_line(
+        caller: Subject, role: Role, list: Item, kind: Kind, subject: Subject
+    );
+    fn create_item = dacm_create_item(caller: Subject, role: Role, list: Item, flags: Flags);
+    fn bind = dacm_bind(caller: Subject, item: Item, list: Item);
+    fn hand_over = dacm_hand_over(caller: Subject, item: Item, owner: Subject);
+}

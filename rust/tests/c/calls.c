@@ -1,0 +1,178 @@
+/*
+ * Every function of the header on the sample workshop, accepted and refused. The program needs nothing but the header, so it
+ * cannot print: it ends with 0, or with the number of the first check that failed.
+ */
+#include "dacm.h"
+
+/* A field is 32 bits, little-endian. */
+#define FIELD(n) (uint8_t)((n) & 0xff), (uint8_t)((n) >> 8 & 0xff), (uint8_t)((n) >> 16 & 0xff), (uint8_t)((n) >> 24 & 0xff)
+#define ROW3(a, b, c) FIELD(UINT32_C(a)), FIELD(UINT32_C(b)), FIELD(UINT32_C(c))
+#define ROW4(a, b, c, d) ROW3(a, b, c), FIELD(UINT32_C(d))
+#define ROW5(a, b, c, d, e) ROW4(a, b, c, d), FIELD(UINT32_C(e))
+
+enum { LENGTH = 316, LINES = 160, LINE_BYTES = 16 };
+
+static const uint8_t sample[LENGTH] = {
+    /* used rows and offset of subjects, grants, lines and items, then the total */
+    ROW5(6, 36, 1, 120, 5), ROW4(160, 4, 256, 316),
+    /* subjects: parent, privileges, creator */
+    ROW3(0, 0xffffffff, 0), ROW3(0, 127, 0), ROW3(1, 91, 1), ROW3(0, 73, 0), ROW3(3, 9, 0), ROW3(2, 3, 1), ROW3(0, 0, 0),
+    /* grants: receiver, role, grantor, domain, privileges */
+    ROW5(4, 7, 2, 2, 3), ROW5(0, 0, 0, 0, 0),
+    /* lines: list, kind, subject, privileges */
+    ROW4(1, 0, 4, 8), ROW4(1, 0, 5, 0), ROW4(1, 1, 1, 3), ROW4(1, 2, 0, 7), ROW4(1, 3, 0, 1), ROW4(0, 0, 0, 0),
+    /* items: owner, list, flags */
+    ROW3(1, 1, 1), ROW3(2, 1, 0), ROW3(4, 1, 0), ROW3(2, 0, 0), ROW3(0, 0, 0)
+};
+
+static uint8_t image[LENGTH];
+
+static int checks, failed;
+
+static void expect(int holds)
+{
+    checks++;
+    if (!holds && failed == 0)
+        failed = checks;
+}
+
+static void fresh(void)
+{
+    for (size_t i = 0; i < LENGTH; i++)
+        image[i] = sample[i];
+}
+
+static int unchanged(void)
+{
+    for (size_t i = 0; i < LENGTH; i++)
+        if (image[i] != sample[i])
+            return 0;
+    return 1;
+}
+
+static void accepted(dacm_answer answer, uint32_t result)
+{
+    expect(answer.number == 0 && answer.result == result);
+    expect(dacm_check(image, LENGTH).number == 0);
+}
+
+/* A refused call has result 0 and leaves every byte of the fresh sample. */
+static void refused(dacm_answer answer, uint32_t number)
+{
+    expect(answer.number == number && answer.result == 0);
+    expect(unchanged());
+}
+
+static const dacm_subject custodian = {0}, first = {1}, second = {2}, third = {3}, fourth = {4}, fifth = {5}, nobody = {6};
+static const dacm_role no_role = {0}, seventh = {7};
+static const dacm_item none = {0}, list = {1}, document = {2}, unlisted = {4}, nothing = {5};
+
+static uint32_t set_of(dacm_subject subject, dacm_item item)
+{
+    return dacm_permission_set(image, LENGTH, subject, no_role, item).result;
+}
+
+static void ask(void)
+{
+    fresh();
+    accepted(dacm_check(image, LENGTH), 0);
+    refused(dacm_check(image, 35), 1);
+    refused(dacm_check(image, 0), 1);
+    refused(dacm_check(image, LENGTH - 1), 2);
+
+    accepted(dacm_operation_set(image, LENGTH, fourth, seventh), 11);
+    accepted(dacm_operation_set(image, LENGTH, custodian, no_role), DACM_ALL);
+    refused(dacm_operation_set(image, LENGTH, nobody, no_role), 10);
+
+    accepted(dacm_permission_set(image, LENGTH, fourth, seventh, document), DACM_READ | DACM_REPLACE | DACM_ANNOTATE);
+    refused(dacm_permission_set(image, LENGTH, nobody, no_role, nothing), 10);
+    refused(dacm_permission_set(image, LENGTH, first, no_role, nothing), 12);
+
+    accepted(dacm_list_count(image, LENGTH, list), 5);
+    refused(dacm_list_count(image, LENGTH, document), 13);
+
+    expect(dacm_list_start(image, LENGTH, list) == LINES);
+    expect(image[LINES + 5 * LINE_BYTES - LINE_BYTES + 4] == DACM_EVERYONE);
+    expect(dacm_list_start(image, LENGTH, document) == 0);
+    expect(dacm_list_start(image, 0, list) == 0);
+
+    refused(dacm_find_editor(image, LENGTH, list), 20);
+    refused(dacm_find_editor(image, LENGTH, none), 13);
+    expect(dacm_set_line(image, LENGTH, custodian, no_role, list, DACM_ITSELF, third, DACM_EDIT_LIST).number == 0);
+    accepted(dacm_find_editor(image, LENGTH, list), third.number);
+}
+
+static void change_subjects_and_grants(void)
+{
+    fresh();
+    refused(dacm_define_subject(image, LENGTH, first, no_role, third, 255), 16);
+    refused(dacm_define_subject(image, LENGTH, fourth, seventh, fourth, DACM_READ), 15);
+    accepted(dacm_define_subject(image, LENGTH, first, no_role, second, 255), 6);
+    expect(dacm_operation_set(image, LENGTH, nobody, no_role).result == 127);
+    expect(dacm_define_subject(image, LENGTH, first, no_role, second, 255).number == 19);
+
+    fresh();
+    refused(dacm_set_grant(image, LENGTH, third, fourth, seventh, third, DACM_READ), 18);
+    refused(dacm_set_grant(image, LENGTH, third, fourth, seventh, second, DACM_READ), 16);
+    refused(dacm_set_grant(image, LENGTH, third, fourth, no_role, third, DACM_READ), 14);
+    accepted(dacm_set_grant(image, LENGTH, second, fourth, seventh, fifth, DACM_READ), 0);
+    expect(dacm_permission_set(image, LENGTH, fourth, seventh, document).result == 9);
+
+    fresh();
+    refused(dacm_remove_grant(image, LENGTH, third, fourth, seventh), 18);
+    refused(dacm_remove_grant(image, LENGTH, second, fifth, seventh), 17);
+    accepted(dacm_remove_grant(image, LENGTH, second, fourth, seventh), 0);
+    expect(dacm_permission_set(image, LENGTH, fourth, seventh, document).result == 9);
+}
+
+static void change_lines(void)
+{
+    fresh();
+    refused(dacm_set_line(image, LENGTH, first, no_role, list, DACM_ITSELF, third, DACM_READ), 15);
+    refused(dacm_set_line(image, LENGTH, custodian, no_role, list, DACM_EVERYONE, third, DACM_READ), 14);
+    accepted(dacm_set_line(image, LENGTH, custodian, no_role, list, DACM_GROUP, third, DACM_ANNOTATE), 0);
+    expect(dacm_list_count(image, LENGTH, list).result == 6);
+    accepted(dacm_set_line(image, LENGTH, custodian, no_role, list, DACM_OWNER, custodian, DACM_DISCARD), 0);
+    expect(set_of(second, document) == DACM_READ);
+    expect(dacm_set_line(image, LENGTH, custodian, no_role, list, DACM_ITSELF, third, DACM_READ).number == 19);
+
+    fresh();
+    refused(dacm_remove_line(image, LENGTH, first, no_role, list, DACM_ITSELF, fifth), 15);
+    refused(dacm_remove_line(image, LENGTH, custodian, no_role, list, DACM_ITSELF, third), 17);
+    accepted(dacm_remove_line(image, LENGTH, custodian, no_role, list, DACM_ITSELF, fifth), 0);
+    expect(set_of(fifth, document) == (DACM_READ | DACM_REPLACE));
+}
+
+static void change_items(void)
+{
+    fresh();
+    refused(dacm_create_item(image, LENGTH, fourth, no_role, list, 0), 15);
+    refused(dacm_create_item(image, LENGTH, first, no_role, list, 4), 14);
+    accepted(dacm_create_item(image, LENGTH, first, no_role, none, DACM_IS_LIST | DACM_LOCKED), nothing.number);
+    expect(dacm_list_count(image, LENGTH, nothing).number == 0);
+    expect(dacm_list_start(image, LENGTH, nothing) == 0);
+    expect(dacm_bind(image, LENGTH, first, nothing, list).number == 15);
+
+    fresh();
+    refused(dacm_bind(image, LENGTH, fifth, unlisted, list), 15);
+    refused(dacm_bind(image, LENGTH, second, none, list), 12);
+    accepted(dacm_bind(image, LENGTH, second, unlisted, list), 0);
+    expect(set_of(second, unlisted) == 3);
+    accepted(dacm_bind(image, LENGTH, second, unlisted, none), 0);
+    expect(unchanged());
+
+    fresh();
+    refused(dacm_hand_over(image, LENGTH, second, unlisted, fifth), 15);
+    refused(dacm_hand_over(image, LENGTH, custodian, unlisted, nobody), 11);
+    accepted(dacm_hand_over(image, LENGTH, custodian, unlisted, fifth), 0);
+    expect(dacm_bind(image, LENGTH, fifth, unlisted, list).number == 0);
+}
+
+int main(void)
+{
+    ask();
+    change_subjects_and_grants();
+    change_lines();
+    change_items();
+    return failed;
+}

@@ -1,0 +1,39 @@
+//! The library from C: programs that know nothing but the header are compiled, linked with the
+//! archive and run.
+
+use std::path::{Path, PathBuf};
+use std::process::Command;
+
+const FLAGS: [&str; 5] = ["-std=c99", "-Wall", "-Wextra", "-Wpedantic", "-Werror"];
+
+#[test]
+fn every_function_from_c() {
+    let program = compile(&here().join("tests/c/calls.c"), "calls");
+    let ended = Command::new(&program).status().expect("the program starts");
+    // The status is the number of the first check that failed.
+    assert_eq!(ended.code(), Some(0), "a check of calls.c failed");
+}
+
+/// Compiles a C program against the header, links it with the archive and answers where it is.
+fn compile(source: &Path, name: &str) -> PathBuf {
+    let folder = Path::new(env!("CARGO_TARGET_TMPDIR")).join("c_program");
+    std::fs::create_dir_all(&folder).expect("cargo's folder for tests takes another");
+    let program = folder.join(name);
+    let ended = Command::new("cc")
+        .args(FLAGS)
+        .arg("-I")
+        .arg(here().join("../include"))
+        .arg(source)
+        .arg(here().join("../target/staticlib/libdacm.a"))
+        .arg("-o")
+        .arg(&program)
+        .output()
+        .expect("there is a C compiler called cc");
+    let said = String::from_utf8_lossy(&ended.stderr);
+    assert!(ended.status.success(), "cc refuses {source:?}:\n{said}");
+    program
+}
+
+fn here() -> &'static Path {
+    Path::new(env!("CARGO_MANIFEST_DIR"))
+}

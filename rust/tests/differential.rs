@@ -1,0 +1,112 @@
+//! Every call on random, damaged and extreme images: the library against the twin.
+//!
+//! Compared are number, result and every byte of the image afterwards. At the end each call must
+//! have been accepted, and refused with each number that it can be refused with.
+
+mod support;
+mod twin;
+
+use support::boundary::{boundary_images, telling_tables, Boundary};
+use support::call::Call;
+use support::choose::Chooser;
+use support::compare::compare;
+use support::coverage::Coverage;
+use support::damage::{damage, telling_values};
+use support::libraries::Size;
+use support::random::Random;
+use support::rounds;
+use support::sample::sample;
+use support::tables::{field_count, set_field, Tables};
+
+#[test]
+fn accepted_images() {
+    let coverage = &mut Coverage::default();
+    each_call_on_libraries("a small library", rounds(100_000), Size::small, coverage);
+    each_call_on_libraries("a larger library", rounds(100), Size::larger, coverage);
+    each_call_on_libraries("the longest library", rounds(20), Size::longest, coverage);
+    coverage.assert_own_questions();
+}
+
+#[test]
+fn damaged_images() {
+    let coverage = &mut Coverage::default();
+    for seed in 0..rounds(120_000) {
+        let random = &mut Random::new(seed);
+        let tables = Size::small(random).library(random);
+        let mut image = tables.image();
+        damage(random, &mut image);
+        let seed = format!("a damaged library, seed {seed}");
+        each_call_on_a_copy(random, &tables, &image, &seed, coverage);
+    }
+    coverage.assert_common_questions();
+}
+
+/// Every field of the sample and of some random images, each replaced by every value that may tell
+/// something.
+#[test]
+fn every_field_replaced() {
+    replace_every_field("the sample", &sample());
+    for seed in 0..rounds(60) {
+        let random = &mut Random::new(seed);
+        let tables = Size::small(random).library(random);
+        replace_every_field(&format!("a small library, seed {seed}"), &tables);
+    }
+}
+
+fn replace_every_field(name: &str, tables: &Tables) {
+    let random = &mut Random::new(0);
+    let image = tables.image();
+    for field in 0..field_count(&image) {
+        for value in telling_values(&image) {
+            let mut damaged = image.clone();
+            set_field(&mut damaged, field, value);
+            let seed = format!("{name}, field {field} is {value}");
+            let call = Chooser { random, tables }.any_call();
+            compare(&mut damaged.clone(), &Call::Check, &seed);
+            compare(&mut damaged, &call, &seed);
+        }
+    }
+}
+
+#[test]
+fn boundary_images_and_far_out_numbers() {
+    for Boundary { name, image } in boundary_images() {
+        let tables = telling_tables(&image);
+        let times = if image.len() < 1_000 { 100 } else { 10 };
+        for seed in 0..rounds(times) {
+            let random = &mut Random::new(seed);
+            let seed = format!("{name}, seed {seed}");
+            each_call_on_a_copy(random, &tables, &image, &seed, &mut Coverage::default());
+        }
+    }
+}
+
+/// Makes each call on random libraries of a size.
+fn each_call_on_libraries(
+    name: &str,
+    count: u64,
+    size: impl Fn(&mut Random) -> Size,
+    coverage: &mut Coverage,
+) {
+    for seed in 0..count {
+        let random = &mut Random::new(seed);
+        let tables = size(random).library(random);
+        let seed = format!("{name}, seed {seed}");
+        each_call_on_a_copy(random, &tables, &tables.image(), &seed, coverage);
+    }
+}
+
+/// Makes each call once, with arguments that suit these tables, each on the image as it was.
+fn each_call_on_a_copy(
+    random: &mut Random,
+    tables: &Tables,
+    image: &[u8],
+    seed: &str,
+    coverage: &mut Coverage,
+) {
+    for index in 0..Call::NAMES.len() {
+        let call = Chooser { random, tables }.call(index);
+        let outcome = compare(&mut image.to_vec(), &call, seed);
+        coverage.saw(&call, &outcome);
+    }
+}

@@ -1,0 +1,220 @@
+//! The sample workshop: every case that the paper gives, on the library and on the twin.
+
+mod support;
+mod twin;
+
+use support::boundary::custodian_only;
+use support::call::{Call, Outcome};
+use support::compare::compare;
+use support::sample::{sample, EVERYONE, GROUP, ITSELF, OWNER};
+use support::tables::{get_field, set_field, Table, Tables};
+
+/// Privileges to try where the paper names none.
+const SOME_PRIVILEGES: [u32; 5] = [0, 1, 127, 255, u32::MAX];
+
+/// Makes the call on both sides, which must agree, and answers number and result.
+fn answer(image: &mut [u8], call: Call) -> (u32, u32) {
+    let Outcome { number, result, .. } = compare(image, &call, "no seed");
+    (number, result)
+}
+
+/// Makes the call on a fresh sample.
+fn on_sample(call: Call) -> (u32, u32) {
+    answer(&mut sample().image(), call)
+}
+
+fn refused(number: u32) -> (u32, u32) {
+    (number, 0)
+}
+
+fn accepted(result: u32) -> (u32, u32) {
+    (0, result)
+}
+
+fn permission_set(image: &mut [u8], subject: u32, role: u32, item: u32) -> (u32, u32) {
+    answer(
+        image,
+        Call::PermissionSet {
+            subject,
+            role,
+            item,
+        },
+    )
+}
+
+#[test]
+fn the_image_is_laid_out_as_the_paper_says() {
+    let mut image = sample().image();
+    let header: Vec<u32> = (0..9).map(|field| get_field(&image, field)).collect();
+    assert_eq!(header, [6, 36, 1, 120, 5, 160, 4, 256, 316]);
+    assert_eq!(image.len(), 316);
+    assert_eq!(answer(&mut image, Call::Check), accepted(0));
+}
+
+#[test]
+fn the_twelve_sets() {
+    let sets = [
+        (2, 0, 2, 3),
+        (2, 0, 3, 3),
+        (5, 0, 2, 1),
+        (4, 0, 2, 9),
+        (4, 7, 2, 11),
+        (4, 0, 3, 1),
+        (4, 7, 3, 3),
+        (4, 9, 2, 9),
+        (1, 0, 2, 1),
+        (3, 0, 2, 1),
+        (2, 0, 4, 0),
+        (0, 0, 4, u32::MAX),
+    ];
+    for (subject, role, item, set) in sets {
+        let answered = permission_set(&mut sample().image(), subject, role, item);
+        assert_eq!(answered, accepted(set), "({subject}, {role}, {item})");
+    }
+}
+
+#[test]
+fn a_definition_gives_what_the_caller_has() {
+    let mut image = sample().image();
+    let define = Call::DefineSubject {
+        caller: 1,
+        role: 0,
+        parent: 2,
+        privileges: 255,
+    };
+    assert_eq!(answer(&mut image, define), accepted(6));
+    let mut expected = sample();
+    expected.subjects.rows.push([2, 127, 1]);
+    expected.subjects.spare = 0;
+    assert_eq!(image, expected.image());
+}
+
+#[test]
+fn definitions_refused() {
+    for privileges in SOME_PRIVILEGES {
+        let outside_the_tree = Call::DefineSubject {
+            caller: 1,
+            role: 0,
+            parent: 3,
+            privileges,
+        };
+        assert_eq!(on_sample(outside_the_tree), refused(16));
+        for parent in 0..6 {
+            let without_the_right = Call::DefineSubject {
+                caller: 4,
+                role: 7,
+                parent,
+                privileges,
+            };
+            assert_eq!(on_sample(without_the_right), refused(15));
+        }
+    }
+}
+
+#[test]
+fn lines_are_not_set_without_the_right() {
+    let named = (0..6).flat_map(|subject| [(ITSELF, subject), (GROUP, subject)]);
+    for (kind, subject) in named.chain([(OWNER, 0), (EVERYONE, 0)]) {
+        for privileges in SOME_PRIVILEGES {
+            let set = Call::SetLine {
+                caller: 1,
+                role: 0,
+                list: 1,
+                kind,
+                subject,
+                privileges,
+            };
+            assert_eq!(on_sample(set), refused(15));
+        }
+    }
+}
+
+#[test]
+fn grants_refused() {
+    for (domain, number) in [(3, 18), (2, 16)] {
+        for privileges in SOME_PRIVILEGES {
+            let set = Call::SetGrant {
+                caller: 3,
+                receiver: 4,
+                role: 7,
+                domain,
+                privileges,
+            };
+            assert_eq!(on_sample(set), refused(number));
+        }
+    }
+}
+
+#[test]
+fn a_binding_by_the_owner_and_by_another() {
+    let bind_by = |caller| Call::Bind {
+        caller,
+        item: 4,
+        list: 1,
+    };
+    let mut image = sample().image();
+    assert_eq!(answer(&mut image, bind_by(2)), accepted(0));
+    assert_eq!(permission_set(&mut image, 2, 0, 4), accepted(3));
+    let mut expected = sample();
+    expected.items.rows[3] = [2, 1, 0];
+    assert_eq!(image, expected.image());
+
+    assert_eq!(on_sample(bind_by(5)), refused(15));
+}
+
+#[test]
+fn lengths() {
+    for filler in [0, 1, 255] {
+        assert_eq!(answer(&mut [filler; 35], Call::Check), refused(1));
+        assert_eq!(answer(&mut vec![filler; 65_537], Call::Check), refused(1));
+        assert_eq!(answer(&mut [filler; 36], Call::Check), refused(2));
+    }
+    let mut cut = sample().image();
+    cut.truncate(35);
+    assert_eq!(answer(&mut cut, Call::Check), refused(1));
+
+    let mut no_subject = Tables::default().image();
+    assert_eq!(no_subject.len(), 36);
+    assert_eq!(answer(&mut no_subject, Call::Check), refused(2));
+
+    let mut custodian = custodian_only(0).image();
+    assert_eq!(custodian.len(), 48);
+    assert_eq!(answer(&mut custodian, Call::Check), accepted(0));
+
+    let mut too_long = custodian_only(0).image();
+    too_long.resize(65_537, 0);
+    set_field(&mut too_long, 8, 65_537);
+    assert_eq!(answer(&mut too_long, Call::Check), refused(1));
+}
+
+/// The report's example: two subjects, and one item that the second owns, without a list.
+#[test]
+fn the_report_of_72_bytes() {
+    let tables = Tables {
+        subjects: Table {
+            rows: vec![[0, u32::MAX, 0], [0, 0, 0]],
+            spare: 0,
+        },
+        items: Table {
+            rows: vec![[1, 0, 0]],
+            spare: 0,
+        },
+        ..Tables::default()
+    };
+    let mut image = tables.image();
+    assert_eq!(image.len(), 72);
+    assert_eq!(report(&image), "subject item set\n0 1 4294967295\n1 1 0\n");
+    assert_eq!(permission_set(&mut image, 0, 0, 1), accepted(u32::MAX));
+    assert_eq!(permission_set(&mut image, 1, 0, 1), accepted(0));
+
+    assert_eq!(report(&image[..71]), "refused 2\n");
+    assert_eq!(answer(&mut image[..71], Call::Check), refused(2));
+    assert_eq!(report(&[]), "refused 1\n");
+    assert_eq!(answer(&mut [], Call::Check), refused(1));
+}
+
+fn report(image: &[u8]) -> String {
+    let mut out = Vec::new();
+    twin::report(image, &mut out).expect("a vector takes every byte");
+    String::from_utf8(out).expect("the report is plain text")
+}

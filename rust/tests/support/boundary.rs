@@ -1,0 +1,141 @@
+//! Images at the edges of what is accepted.
+
+use super::libraries::Size;
+use super::random::Random;
+use super::sample::{sample, GROUP};
+use super::tables::{set_field, Table, Tables};
+use crate::twin;
+
+const LENGTHS: [usize; 8] = [0, 35, 36, 37, 48, 65_535, 65_536, 65_537];
+
+pub struct Boundary {
+    pub name: String,
+    pub image: Vec<u8>,
+}
+
+/// Tables to choose arguments from: those of the image, or the sample's where it is not accepted.
+pub fn telling_tables(image: &[u8]) -> Tables {
+    match twin::check(image).number {
+        0 => Tables::read(image),
+        _ => sample(),
+    }
+}
+
+pub fn boundary_images() -> Vec<Boundary> {
+    let mut images = vec![
+        named("the sample", sample().image()),
+        named("the custodian only", custodian_only(0).image()),
+        named("the custodian and a zero row", custodian_only(1).image()),
+        named("no subject in use", no_subject()),
+        named("every table full", every_table_full().image()),
+        named("a chain of subjects", chain().image()),
+    ];
+    images.extend(LENGTHS.into_iter().flat_map(of_length));
+    images.extend(headers_alone());
+    images.extend((0..4).flat_map(one_row_more_than_there_is));
+    let random = &mut Random::new(1);
+    let longest = Size::longest(random).library(random);
+    images.push(named("the longest", longest.image()));
+    images
+}
+
+fn named(name: impl Into<String>, image: Vec<u8>) -> Boundary {
+    Boundary {
+        name: name.into(),
+        image,
+    }
+}
+
+/// 48 bytes, and 12 more for each spare row.
+pub fn custodian_only(spare: usize) -> Tables {
+    Tables {
+        subjects: Table {
+            rows: vec![[0, u32::MAX, 0]],
+            spare,
+        },
+        ..Tables::default()
+    }
+}
+
+/// A zero row where the custodian would be.
+fn no_subject() -> Vec<u8> {
+    let mut tables = custodian_only(1);
+    tables.subjects.rows.clear();
+    tables.image()
+}
+
+fn every_table_full() -> Tables {
+    let mut tables = sample();
+    tables.subjects.spare = 0;
+    tables.grants.spare = 0;
+    tables.lines.spare = 0;
+    tables.items.spare = 0;
+    tables
+}
+
+/// Every subject below the one before, as many as fit, and a group line that only the end of the
+/// search meets.
+fn chain() -> Tables {
+    let below = (0..5_449).map(|parent| [parent, 127, 0]);
+    Tables {
+        subjects: Table {
+            rows: [[0, u32::MAX, 0]].into_iter().chain(below).collect(),
+            spare: 0,
+        },
+        grants: Table {
+            rows: vec![[5_449, 7, 5_000, 5_448, 127]],
+            spare: 0,
+        },
+        lines: Table {
+            rows: vec![[1, GROUP, 0, 64]],
+            spare: 0,
+        },
+        items: Table {
+            rows: vec![[5_449, 1, 1]],
+            spare: 0,
+        },
+    }
+}
+
+/// Bytes of this length: all alike, with the length recorded, and the sample cut or made longer.
+fn of_length(length: usize) -> Vec<Boundary> {
+    let mut images = Vec::new();
+    for filler in [0, 0xff] {
+        images.push(named(
+            format!("{length} bytes of {filler}"),
+            vec![filler; length],
+        ));
+    }
+    let mut cut = sample().image();
+    cut.resize(length, 0);
+    images.push(named(format!("the sample as {length} bytes"), cut.clone()));
+    if length >= 36 {
+        set_field(&mut cut, 8, length as u32);
+        images.push(named(format!("the sample as recorded {length}"), cut));
+    }
+    images
+}
+
+/// Images of 36 bytes: a header without tables.
+fn headers_alone() -> Vec<Boundary> {
+    let used = [0, 1, 1 << 30, u32::MAX];
+    let header = |used| {
+        let mut image = Tables::default().image();
+        set_field(&mut image, 0, used);
+        named(format!("a header with {used} subjects"), image)
+    };
+    used.into_iter().map(header).collect()
+}
+
+/// The sample with more rows said to be used than the table has, by one and by so many that the
+/// bytes come out the same if the product is cut to 32 bits.
+fn one_row_more_than_there_is(table: usize) -> Vec<Boundary> {
+    let capacity = [7, 2, 6, 5][table];
+    let more = [1, 1 << 28, 1 << 30, u32::MAX - capacity];
+    let with_used = |more| {
+        let mut image = sample().image();
+        set_field(&mut image, 2 * table, capacity + more);
+        named(format!("table {table} with {more} rows more"), image)
+    };
+    more.into_iter().map(with_used).collect()
+}

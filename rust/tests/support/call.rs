@@ -1,0 +1,220 @@
+//! A call with its arguments, made on the library or on the twin.
+
+use crate::twin;
+use dacm::{Flags, Item, Kind, Refusal, Role, Subject};
+use std::ops::Range;
+
+/// One variant for each function of the header. Numbers are plain, so that any number can be handed
+/// over.
+#[rustfmt::skip] // one call a line, to be read as a table
+#[derive(Clone, Copy, Debug)]
+pub enum Call {
+    Check,
+    OperationSet { subject: u32, role: u32 },
+    PermissionSet { subject: u32, role: u32, item: u32 },
+    ListCount { list: u32 },
+    LinesOf { list: u32 },
+    FindEditor { list: u32 },
+    DefineSubject { caller: u32, role: u32, parent: u32, privileges: u32 },
+    SetGrant { caller: u32, receiver: u32, role: u32, domain: u32, privileges: u32 },
+    RemoveGrant { caller: u32, receiver: u32, role: u32 },
+    SetLine { caller: u32, role: u32, list: u32, kind: u32, subject: u32, privileges: u32 },
+    RemoveLine { caller: u32, role: u32, list: u32, kind: u32, subject: u32 },
+    CreateItem { caller: u32, role: u32, list: u32, flags: u32 },
+    Bind { caller: u32, item: u32, list: u32 },
+    HandOver { caller: u32, item: u32, owner: u32 },
+}
+
+/// What a call answered. The part of the image is shown by the lines of a list alone.
+#[derive(Clone, Debug, PartialEq, Eq)]
+pub struct Outcome {
+    pub number: u32,
+    pub result: u32,
+    pub part: Range<usize>,
+}
+
+impl Outcome {
+    pub fn new(number: u32, result: u32) -> Outcome {
+        Outcome {
+            number,
+            result,
+            part: 0..0,
+        }
+    }
+}
+
+impl Call {
+    pub const NAMES: [&'static str; 14] = [
+        "check",
+        "operation_set",
+        "permission_set",
+        "list_count",
+        "lines_of",
+        "find_editor",
+        "define_subject",
+        "set_grant",
+        "remove_grant",
+        "set_line",
+        "remove_line",
+        "create_item",
+        "bind",
+        "hand_over",
+    ];
+
+    /// The names above from here on are of calls that write the image.
+    pub const FIRST_WRITING: usize = 6;
+
+    /// The place of the call's name.
+    fn index(&self) -> usize {
+        match self {
+            Call::Check => 0,
+            Call::OperationSet { .. } => 1,
+            Call::PermissionSet { .. } => 2,
+            Call::ListCount { .. } => 3,
+            Call::LinesOf { .. } => 4,
+            Call::FindEditor { .. } => 5,
+            Call::DefineSubject { .. } => 6,
+            Call::SetGrant { .. } => 7,
+            Call::RemoveGrant { .. } => 8,
+            Call::SetLine { .. } => 9,
+            Call::RemoveLine { .. } => 10,
+            Call::CreateItem { .. } => 11,
+            Call::Bind { .. } => 12,
+            Call::HandOver { .. } => 13,
+        }
+    }
+
+    pub fn name(&self) -> &'static str {
+        Call::NAMES[self.index()]
+    }
+
+    pub fn only_asks(&self) -> bool {
+        self.index() < Call::FIRST_WRITING
+    }
+
+    /// Makes a call that only asks, on the library.
+    #[rustfmt::skip]
+    pub fn ask_library(&self, image: &[u8]) -> Outcome {
+        match *self {
+            Call::Check =>
+                done(dacm::check(image)),
+            Call::OperationSet { subject, role } =>
+                with_result(dacm::operation_set(image, Subject(subject), Role(role))),
+            Call::PermissionSet { subject, role, item } =>
+                with_result(dacm::permission_set(image, Subject(subject), Role(role), Item(item))),
+            Call::ListCount { list } =>
+                with_result(dacm::list_count(image, Item(list))),
+            Call::LinesOf { list } =>
+                lines_of_library(image, list),
+            Call::FindEditor { list } =>
+                with_result(dacm::find_editor(image, Item(list)).map(|editor| editor.0)),
+            _ => panic!("{self:?} does not only ask"),
+        }
+    }
+
+    /// Makes any call, on the library.
+    #[rustfmt::skip]
+    pub fn on_library(&self, image: &mut [u8]) -> Outcome {
+        match *self {
+            Call::DefineSubject { caller, role, parent, privileges } =>
+                with_result(dacm::define_subject(image, Subject(caller), Role(role), Subject(parent), privileges)
+                    .map(|defined| defined.0)),
+            Call::SetGrant { caller, receiver, role, domain, privileges } =>
+                done(dacm::set_grant(image, Subject(caller), Subject(receiver), Role(role), Subject(domain), privileges)),
+            Call::RemoveGrant { caller, receiver, role } =>
+                done(dacm::remove_grant(image, Subject(caller), Subject(receiver), Role(role))),
+            Call::SetLine { caller, role, list, kind, subject, privileges } =>
+                done(dacm::set_line(image, Subject(caller), Role(role), Item(list), Kind(kind), Subject(subject), privileges)),
+            Call::RemoveLine { caller, role, list, kind, subject } =>
+                done(dacm::remove_line(image, Subject(caller), Role(role), Item(list), Kind(kind), Subject(subject))),
+            Call::CreateItem { caller, role, list, flags } =>
+                with_result(dacm::create_item(image, Subject(caller), Role(role), Item(list), Flags(flags))
+                    .map(|created| created.0)),
+            Call::Bind { caller, item, list } =>
+                done(dacm::bind(image, Subject(caller), Item(item), Item(list))),
+            Call::HandOver { caller, item, owner } =>
+                done(dacm::hand_over(image, Subject(caller), Item(item), Subject(owner))),
+            _ => self.ask_library(image),
+        }
+    }
+
+    /// Makes any call, on the twin.
+    #[rustfmt::skip]
+    pub fn on_twin(&self, image: &mut [u8]) -> Outcome {
+        let answer = match *self {
+            Call::Check =>
+                twin::check(image),
+            Call::OperationSet { subject, role } =>
+                twin::operation_set(image, subject, role),
+            Call::PermissionSet { subject, role, item } =>
+                twin::permission_set(image, subject, role, item),
+            Call::ListCount { list } =>
+                twin::list_count(image, list),
+            Call::LinesOf { list } =>
+                return lines_of_twin(image, list),
+            Call::FindEditor { list } =>
+                twin::find_editor(image, list),
+            Call::DefineSubject { caller, role, parent, privileges } =>
+                twin::define_subject(image, caller, role, parent, privileges),
+            Call::SetGrant { caller, receiver, role, domain, privileges } =>
+                twin::set_grant(image, caller, receiver, role, domain, privileges),
+            Call::RemoveGrant { caller, receiver, role } =>
+                twin::remove_grant(image, caller, receiver, role),
+            Call::SetLine { caller, role, list, kind, subject, privileges } =>
+                twin::set_line(image, caller, role, list, kind, subject, privileges),
+            Call::RemoveLine { caller, role, list, kind, subject } =>
+                twin::remove_line(image, caller, role, list, kind, subject),
+            Call::CreateItem { caller, role, list, flags } =>
+                twin::create_item(image, caller, role, list, flags),
+            Call::Bind { caller, item, list } =>
+                twin::bind(image, caller, item, list),
+            Call::HandOver { caller, item, owner } =>
+                twin::hand_over(image, caller, item, owner),
+        };
+        Outcome::new(answer.number, answer.result)
+    }
+}
+
+fn with_result(answer: Result<u32, Refusal>) -> Outcome {
+    match answer {
+        Ok(result) => Outcome::new(0, result),
+        Err(refusal) => Outcome::new(refusal.number(), 0),
+    }
+}
+
+fn done(answer: Result<(), Refusal>) -> Outcome {
+    with_result(answer.map(|()| 0))
+}
+
+extern "C" {
+    fn dacm_list_start(image: *const u8, length: usize, list: Item) -> usize;
+}
+
+fn lines_of_library(image: &[u8], list: u32) -> Outcome {
+    // The crate does not show where a refused call lets the lines begin, but the header promises
+    // byte 0 there too. SAFETY: pointer and length are those of one slice.
+    let start = unsafe { dacm_list_start(image.as_ptr(), image.len(), Item(list)) };
+    match dacm::lines_of(image, Item(list)) {
+        Ok(part) => {
+            let shown = part.as_ptr() as usize - image.as_ptr() as usize;
+            assert_eq!(shown, start, "the part shown begins where the lines do");
+            Outcome {
+                part: start..start + part.len(),
+                ..Outcome::new(0, 0)
+            }
+        }
+        Err(refusal) => Outcome {
+            part: start..start,
+            ..Outcome::new(refusal.number(), 0)
+        },
+    }
+}
+
+fn lines_of_twin(image: &[u8], list: u32) -> Outcome {
+    let start = twin::list_start(image, list);
+    let count = twin::list_count(image, list);
+    Outcome {
+        part: start..start + 16 * count.result as usize,
+        ..Outcome::new(count.number, 0)
+    }
+}

@@ -1,0 +1,194 @@
+//! Random accepted images.
+
+use super::choose::{privileges, ROLES};
+use super::random::Random;
+use super::sample::{EVERYONE, OWNER};
+use super::tables::{Table, Tables};
+use std::collections::BTreeMap;
+
+/// How many used and spare rows each table is to have, in the header's order. Lines and grants may
+/// turn out fewer, where there are not so many different ones; the rows that are left over are
+/// spare then.
+#[derive(Clone, Copy, Debug)]
+pub struct Size {
+    pub used: [usize; 4],
+    pub spare: [usize; 4],
+}
+
+impl Size {
+    /// Small enough that all relations happen often.
+    pub fn small(random: &mut Random) -> Size {
+        Size {
+            used: [
+                1 + random.up_to(9),
+                random.up_to(6),
+                random.up_to(14),
+                random.up_to(6),
+            ],
+            spare: std::array::from_fn(|_| random.up_to(2)),
+        }
+    }
+
+    /// Small at first, with room to grow.
+    pub fn growing(random: &mut Random) -> Size {
+        Size {
+            spare: [30, 12, 24, 20].map(|most| {
+                let most = if random.one_in(4) { 2 } else { most };
+                random.up_to(most)
+            }),
+            ..Size::small(random)
+        }
+    }
+
+    /// Exactly 65,536 bytes: 16,375 fields after the header.
+    pub fn longest(random: &mut Random) -> Size {
+        Size::of_fields(random, 16_375)
+    }
+
+    /// Anything between a small one and the longest.
+    pub fn larger(random: &mut Random) -> Size {
+        let fields = 200 + random.below(16_000);
+        Size::of_fields(random, fields)
+    }
+
+    /// Exactly so many fields, at least 100, in the four tables together.
+    fn of_fields(random: &mut Random, fields: usize) -> Size {
+        let mut grants = random.up_to(fields / 16);
+        let lines = random.up_to(fields / 10);
+        // Subjects and items share the rest, three fields a row.
+        let mut rest = fields - 5 * grants - 4 * lines;
+        while !rest.is_multiple_of(3) {
+            grants += 1;
+            rest -= 5;
+        }
+        let subjects = 1 + random.below(rest / 3);
+        let items = rest / 3 - subjects;
+        // Half of a table at most is spare, so that the custodian is not.
+        let capacity = [subjects, grants, lines, items];
+        let spare = capacity.map(|rows| random.pick(&[0, 1, rows]).min(rows / 2));
+        Size {
+            used: std::array::from_fn(|table| capacity[table] - spare[table]),
+            spare,
+        }
+    }
+
+    /// An accepted library of this size.
+    pub fn library(self, random: &mut Random) -> Tables {
+        let [subjects, grants, lines, items] = self.used;
+        let mut tables = Tables {
+            subjects: self.table(0, subject_rows(random, subjects)),
+            items: self.table(3, item_rows(random, items, subjects)),
+            ..Tables::default()
+        };
+        tables.lines = self.table(2, line_rows(random, lines, &tables));
+        tables.grants = self.table(1, grant_rows(random, grants, &tables));
+        tables
+    }
+
+    /// The table with these rows, and the rest of its capacity spare.
+    fn table<const FIELDS: usize>(&self, index: usize, rows: Vec<[u32; FIELDS]>) -> Table<FIELDS> {
+        let capacity = self.used[index] + self.spare[index];
+        Table {
+            spare: capacity - rows.len(),
+            rows,
+        }
+    }
+}
+
+/// How a subject's parent is chosen.
+#[derive(Clone, Copy)]
+enum Tree {
+    Chain,
+    Flat,
+    Any,
+}
+
+fn subject_rows(random: &mut Random, count: usize) -> Vec<[u32; 3]> {
+    let tree = random.pick(&[Tree::Chain, Tree::Flat, Tree::Any, Tree::Any]);
+    let mut rows = vec![[0, u32::MAX, 0]];
+    for number in 1..count {
+        let parent = match tree {
+            Tree::Chain => number - 1,
+            Tree::Flat => 0,
+            Tree::Any => random.below(number),
+        };
+        // Privileges shrink from creator to created, so half of the subjects are the custodian's.
+        let creator = if random.one_in(2) {
+            0
+        } else {
+            random.below(number)
+        };
+        let [_, most, _] = rows[creator];
+        rows.push([parent as u32, privileges(random) & most, creator as u32]);
+    }
+    rows
+}
+
+fn item_rows(random: &mut Random, count: usize, subjects: usize) -> Vec<[u32; 3]> {
+    let flags: Vec<u32> = (0..count).map(|_| random.below(4) as u32).collect();
+    let lists: Vec<u32> = (1..)
+        .zip(&flags)
+        .filter(|(_, flags)| *flags & 1 != 0)
+        .map(|(number, _)| number)
+        .collect();
+    let row = |(number, flags)| {
+        let owner = random.below(subjects) as u32;
+        let is_list = flags & 1 != 0;
+        // Any list will do, higher or lower, and a list may be its own.
+        let list = match random.pick_any(&lists) {
+            Some(_) if is_list && random.one_in(3) => number,
+            Some(list) if !random.one_in(6) => list,
+            _ => 0,
+        };
+        [owner, list, flags]
+    };
+    (1..).zip(flags).map(row).collect()
+}
+
+fn line_rows(random: &mut Random, count: usize, tables: &Tables) -> Vec<[u32; 4]> {
+    let lists = tables.lists();
+    let mut rows = BTreeMap::new();
+    for _ in 0..count {
+        let Some(list) = random.pick_any(&lists) else {
+            break;
+        };
+        let kind = random.below(4) as u32;
+        let subject = match kind {
+            OWNER | EVERYONE => 0,
+            _ => random.below(tables.subjects.used()) as u32,
+        };
+        rows.insert((list, kind, subject), privileges(random));
+    }
+    let row = |((list, kind, subject), privileges)| [list, kind, subject, privileges];
+    rows.into_iter().map(row).collect()
+}
+
+fn grant_rows(random: &mut Random, count: usize, tables: &Tables) -> Vec<[u32; 5]> {
+    let subjects = tables.subjects.used();
+    let mut rows = BTreeMap::new();
+    for _ in 0..count {
+        let receiver = random.below(subjects) as u32;
+        let role = random.pick(&ROLES);
+        let grantor = if random.one_in(4) {
+            0
+        } else {
+            random.below(subjects) as u32
+        };
+        let domain = in_tree_of(random, tables, grantor);
+        rows.insert((receiver, role), (grantor, domain, privileges(random)));
+    }
+    let row = |((receiver, role), (grantor, domain, privileges))| {
+        [receiver, role, grantor, domain, privileges]
+    };
+    rows.into_iter().map(row).collect()
+}
+
+/// A subject in the tree of the head. Those below have higher numbers; where a few tries meet none,
+/// the head itself will do.
+fn in_tree_of(random: &mut Random, tables: &Tables, head: u32) -> u32 {
+    let higher = tables.subjects.used() - head as usize;
+    (0..4)
+        .map(|_| head + random.below(higher) as u32)
+        .find(|&subject| tables.in_tree(subject, head))
+        .unwrap_or(head)
+}

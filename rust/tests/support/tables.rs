@@ -1,0 +1,149 @@
+//! Images made from rows, and the rows of an accepted image.
+
+pub const HEADER_BYTES: usize = 36;
+const FIELD_BYTES: usize = 4;
+
+/// Fields of a row of each table, in the header's order: subjects, grants, lines, items.
+pub const ROW_FIELDS: [usize; 4] = [3, 5, 4, 3];
+
+/// One table: its used rows, and how many zero rows follow them.
+#[derive(Clone, Debug, Default)]
+pub struct Table<const FIELDS: usize> {
+    pub rows: Vec<[u32; FIELDS]>,
+    pub spare: usize,
+}
+
+impl<const FIELDS: usize> Table<FIELDS> {
+    pub fn used(&self) -> usize {
+        self.rows.len()
+    }
+
+    fn write(&self, header: &mut Vec<u32>, body: &mut Vec<u8>) {
+        header.push(self.rows.len() as u32);
+        header.push((HEADER_BYTES + body.len()) as u32);
+        body.extend(bytes(self.rows.iter().flatten()));
+        body.resize(body.len() + self.spare * FIELDS * FIELD_BYTES, 0);
+    }
+
+    fn read(image: &[u8], place: &Place) -> Table<FIELDS> {
+        let row = |row| std::array::from_fn(|field| get_field(image, place.field(row, field)));
+        Table {
+            rows: (0..place.used).map(row).collect(),
+            spare: place.capacity - place.used,
+        }
+    }
+}
+
+/// The rows of an image, in the order that the paper gives their fields.
+#[derive(Clone, Debug, Default)]
+pub struct Tables {
+    /// Parent, privileges, creator.
+    pub subjects: Table<3>,
+    /// Receiver, role, grantor, domain, privileges.
+    pub grants: Table<5>,
+    /// List, kind, subject, privileges.
+    pub lines: Table<4>,
+    /// Owner, list, flags.
+    pub items: Table<3>,
+}
+
+impl Tables {
+    pub fn image(&self) -> Vec<u8> {
+        let mut header = Vec::new();
+        let mut body = Vec::new();
+        self.subjects.write(&mut header, &mut body);
+        self.grants.write(&mut header, &mut body);
+        self.lines.write(&mut header, &mut body);
+        self.items.write(&mut header, &mut body);
+        header.push((HEADER_BYTES + body.len()) as u32);
+        let mut image: Vec<u8> = bytes(&header).collect();
+        image.append(&mut body);
+        image
+    }
+
+    /// The rows of an accepted image.
+    pub fn read(image: &[u8]) -> Tables {
+        let [subjects, grants, lines, items] = places(image);
+        Tables {
+            subjects: Table::read(image, &subjects),
+            grants: Table::read(image, &grants),
+            lines: Table::read(image, &lines),
+            items: Table::read(image, &items),
+        }
+    }
+
+    /// The numbers of the items that are access lists.
+    pub fn lists(&self) -> Vec<u32> {
+        (1..)
+            .zip(&self.items.rows)
+            .filter(|(_, [_, _, flags])| flags & 1 != 0)
+            .map(|(number, _)| number)
+            .collect()
+    }
+
+    /// Is the subject the head or below it?
+    pub fn in_tree(&self, subject: u32, head: u32) -> bool {
+        let mut reached = subject;
+        while reached > head {
+            let [parent, _, _] = self.subjects.rows[reached as usize];
+            reached = parent;
+        }
+        reached == head
+    }
+}
+
+/// Where the rows of a table lie in an image.
+#[derive(Clone, Copy, Debug)]
+pub struct Place {
+    pub start: usize,
+    pub used: usize,
+    pub capacity: usize,
+    pub row_bytes: usize,
+}
+
+impl Place {
+    /// The first byte of a row.
+    pub fn row(&self, row: usize) -> usize {
+        self.start + row * self.row_bytes
+    }
+
+    /// The number of a field, counted over the whole image.
+    fn field(&self, row: usize, field: usize) -> usize {
+        self.row(row) / FIELD_BYTES + field
+    }
+}
+
+/// Where the tables of an accepted image lie, in the header's order.
+pub fn places(image: &[u8]) -> [Place; 4] {
+    std::array::from_fn(|table| {
+        let start = get_field(image, 2 * table + 1) as usize;
+        let next = if table < 3 { 2 * table + 3 } else { 8 };
+        let row_bytes = ROW_FIELDS[table] * FIELD_BYTES;
+        Place {
+            start,
+            used: get_field(image, 2 * table) as usize,
+            capacity: (get_field(image, next) as usize - start) / row_bytes,
+            row_bytes,
+        }
+    })
+}
+
+/// How many whole fields an image has.
+pub fn field_count(image: &[u8]) -> usize {
+    image.len() / FIELD_BYTES
+}
+
+pub fn get_field(image: &[u8], field: usize) -> u32 {
+    let start = field * FIELD_BYTES;
+    let bytes = image[start..start + FIELD_BYTES].try_into();
+    u32::from_le_bytes(bytes.expect("a field has 4 bytes"))
+}
+
+pub fn set_field(image: &mut [u8], field: usize, value: u32) {
+    let start = field * FIELD_BYTES;
+    image[start..start + FIELD_BYTES].copy_from_slice(&value.to_le_bytes());
+}
+
+fn bytes<'a>(fields: impl IntoIterator<Item = &'a u32> + 'a) -> impl Iterator<Item = u8> + 'a {
+    fields.into_iter().flat_map(|field| field.to_le_bytes())
+}

@@ -1,0 +1,74 @@
+//! The calls that only ask.
+
+use super::image::Image;
+use super::permission;
+use super::table::LINES;
+use super::{answer, ask, Answer, Refused};
+use std::ops::Range;
+
+pub fn check(image: &[u8]) -> Answer {
+    answer(|| {
+        Image::open(image)?;
+        Ok(0)
+    })
+}
+
+pub fn operation_set(image: &[u8], subject: u32, role: u32) -> Answer {
+    answer(|| {
+        let image = Image::open(image)?;
+        ask(10, image.has_subject(subject))?;
+        let grant = image.grant(subject, role);
+        Ok(permission::operation_set(&image, subject, grant))
+    })
+}
+
+pub fn permission_set(image: &[u8], subject: u32, role: u32, item: u32) -> Answer {
+    answer(|| {
+        let image = Image::open(image)?;
+        ask(10, image.has_subject(subject))?;
+        let item = image.item(item).ok_or(Refused(12))?;
+        Ok(permission::permission_set(&image, subject, role, item))
+    })
+}
+
+/// How many rows the list has.
+pub fn list_count(image: &[u8], list: u32) -> Answer {
+    answer(|| Ok(list_rows(image, list)?.len() as u32))
+}
+
+/// The first byte of the list's rows. "A refused call, and a list without rows,
+/// shows the empty part at byte 0."
+pub fn list_start(image: &[u8], list: u32) -> usize {
+    match list_rows(image, list) {
+        Ok(rows) if !rows.is_empty() => LINES.start(image, rows.start),
+        _ => 0,
+    }
+}
+
+fn list_rows(image: &[u8], list: u32) -> Result<Range<usize>, Refused> {
+    let image = Image::open(image)?;
+    ask(13, image.list(list).is_some())?;
+    Ok(image.lines_of(list))
+}
+
+/// Which of several subjects is left open: this names the lowest.
+pub fn find_editor(image: &[u8], list: u32) -> Answer {
+    answer(|| {
+        let image = Image::open(image)?;
+        let list = image.list(list).ok_or(Refused(13))?;
+        (1..image.subject_count())
+            .find(|&subject| permission::may_be_named(&image, list, subject))
+            .ok_or(Refused(20))
+    })
+}
+
+/// May the editor search on this list name this subject? No for an image that is
+/// not accepted, and for what is not a list.
+pub fn is_editor(image: &[u8], list: u32, subject: u32) -> bool {
+    let Ok(image) = Image::open(image) else {
+        return false;
+    };
+    image.list(list).is_some_and(|list| {
+        image.has_subject(subject) && permission::may_be_named(&image, list, subject)
+    })
+}

@@ -1,0 +1,58 @@
+#![allow(dead_code)]
+//! A second implementation of the access tables, written from the paper alone.
+//!
+//! Tests compare it with the implementation under test, benchmarks take it as
+//! the baseline. It speaks in plain numbers, so it shares no type with either.
+//! A test binary may use only some of the calls, hence the attributes here.
+//!
+//! Every call opens the image first, which asks questions 1 to 7, and then asks
+//! its own questions in the paper's order. The calls that change the image
+//! write only after their last question, so a refused one leaves every byte.
+
+mod asking;
+mod changing;
+mod image;
+mod permission;
+mod questions;
+mod report;
+mod rows;
+mod table;
+
+#[allow(unused_imports)]
+pub use asking::{
+    check, find_editor, is_editor, list_count, list_start, operation_set, permission_set,
+};
+#[allow(unused_imports)]
+pub use changing::{
+    bind, create_item, define_subject, hand_over, remove_grant, remove_line, set_grant, set_line,
+};
+#[allow(unused_imports)]
+pub use report::report;
+
+/// What a call answers: number 0 and the result, or the number of the first
+/// question answered no and result 0.
+#[derive(Clone, Copy, Debug, PartialEq, Eq)]
+pub struct Answer {
+    pub number: u32,
+    pub result: u32,
+}
+
+/// The number of the first question answered no.
+struct Refused(u32);
+
+/// Asks one question.
+fn ask(number: u32, yes: bool) -> Result<(), Refused> {
+    if yes {
+        Ok(())
+    } else {
+        Err(Refused(number))
+    }
+}
+
+/// Makes a call and puts its outcome into an answer.
+fn answer(call: impl FnOnce() -> Result<u32, Refused>) -> Answer {
+    match call() {
+        Ok(result) => Answer { number: 0, result },
+        Err(Refused(number)) => Answer { number, result: 0 },
+    }
+}

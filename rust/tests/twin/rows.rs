@@ -1,0 +1,167 @@
+//! The four kinds of rows, made from their bytes and turned back into them.
+
+use std::array;
+
+/// Sizes in bytes of a row of each table.
+pub const SUBJECT: usize = 12;
+pub const GRANT: usize = 20;
+pub const LINE: usize = 16;
+pub const ITEM: usize = 12;
+
+pub const CUSTODIAN: u32 = 0;
+pub const ALL: u32 = u32::MAX;
+pub const NO_ROLE: u32 = 0;
+pub const NO_LIST: u32 = 0;
+
+/// Kinds of lines, in their sorted order.
+pub const ITSELF: u32 = 0;
+pub const GROUP: u32 = 1;
+pub const OWNER: u32 = 2;
+pub const EVERYONE: u32 = 3;
+
+/// Flags of an item.
+pub const IS_LIST: u32 = 1;
+pub const LOCKED: u32 = 2;
+pub const ALL_FLAGS: u32 = IS_LIST | LOCKED;
+
+#[derive(Clone, Copy, PartialEq, Eq)]
+pub struct Subject {
+    pub parent: u32,
+    pub privileges: u32,
+    pub creator: u32,
+}
+
+#[derive(Clone, Copy)]
+pub struct Grant {
+    pub receiver: u32,
+    pub role: u32,
+    pub grantor: u32,
+    pub domain: u32,
+    pub privileges: u32,
+}
+
+#[derive(Clone, Copy)]
+pub struct Line {
+    pub list: u32,
+    pub kind: u32,
+    pub subject: u32,
+    pub privileges: u32,
+}
+
+#[derive(Clone, Copy)]
+pub struct Item {
+    pub owner: u32,
+    pub list: u32,
+    pub flags: u32,
+}
+
+impl Subject {
+    pub fn read(row: &[u8; SUBJECT]) -> Subject {
+        let [parent, privileges, creator] = words(row);
+        Subject {
+            parent,
+            privileges,
+            creator,
+        }
+    }
+
+    pub fn bytes(self) -> [u8; SUBJECT] {
+        bytes([self.parent, self.privileges, self.creator])
+    }
+}
+
+impl Grant {
+    pub fn read(row: &[u8; GRANT]) -> Grant {
+        let [receiver, role, grantor, domain, privileges] = words(row);
+        Grant {
+            receiver,
+            role,
+            grantor,
+            domain,
+            privileges,
+        }
+    }
+
+    pub fn bytes(self) -> [u8; GRANT] {
+        bytes([
+            self.receiver,
+            self.role,
+            self.grantor,
+            self.domain,
+            self.privileges,
+        ])
+    }
+
+    /// "Strictly ascending by receiver, then role."
+    pub fn key(self) -> (u32, u32) {
+        (self.receiver, self.role)
+    }
+}
+
+impl Line {
+    pub fn read(row: &[u8; LINE]) -> Line {
+        let [list, kind, subject, privileges] = words(row);
+        Line {
+            list,
+            kind,
+            subject,
+            privileges,
+        }
+    }
+
+    pub fn bytes(self) -> [u8; LINE] {
+        bytes([self.list, self.kind, self.subject, self.privileges])
+    }
+
+    /// "Strictly ascending by list, kind, subject."
+    pub fn key(self) -> (u32, u32, u32) {
+        (self.list, self.kind, self.subject)
+    }
+}
+
+impl Item {
+    pub fn read(row: &[u8; ITEM]) -> Item {
+        let [owner, list, flags] = words(row);
+        Item { owner, list, flags }
+    }
+
+    pub fn bytes(self) -> [u8; ITEM] {
+        bytes([self.owner, self.list, self.flags])
+    }
+
+    pub fn is_list(self) -> bool {
+        self.flags & IS_LIST != 0
+    }
+
+    pub fn is_locked(self) -> bool {
+        self.flags & LOCKED != 0
+    }
+}
+
+/// "Kind at most 3, subject 0 for kinds 2 and 3": a rule of the line rows, and
+/// of the fields that set line and remove line are given.
+pub fn line_in_range(kind: u32, subject: u32) -> bool {
+    match kind {
+        ITSELF | GROUP => true,
+        OWNER | EVERYONE => subject == 0,
+        _ => false,
+    }
+}
+
+/// "Every field is 32 bits, little-endian."
+pub fn words<const N: usize, const FIELDS: usize>(row: &[u8; N]) -> [u32; FIELDS] {
+    array::from_fn(|n| word(row, 4 * n))
+}
+
+pub fn word(bytes: &[u8], at: usize) -> u32 {
+    let field = &bytes[at..at + 4];
+    u32::from_le_bytes([field[0], field[1], field[2], field[3]])
+}
+
+fn bytes<const N: usize, const FIELDS: usize>(fields: [u32; FIELDS]) -> [u8; N] {
+    let mut row = [0; N];
+    for (place, field) in row.chunks_exact_mut(4).zip(fields) {
+        place.copy_from_slice(&field.to_le_bytes());
+    }
+    row
+}
