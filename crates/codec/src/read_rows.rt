@@ -1,7 +1,9 @@
-// Rows read from their tables, by number. A row that is not in use reads as the row of zeros.
+// Rows read from their tables, by number. A row that is not in use, or that runs past the end, reads as the row of zeros. A row's bytes are taken as one part, so that it is
+// asked once whether they are there.
 ghost use mathlib.Core.Path.{_≡_};
 ghost use lib.ListN.{getD};
 ghost use Rattle.model.specs.Image.{rowsIn, itemIn, widthOf, subjectFormat, noSubject, grantFormat, noGrant, lineFormat, noLine, itemFormat, noItem};
+ghost use Rattle.codec.specs.RowLaws.{rowOf};
 use fields::field;
 use model::GrantRow;
 use model::Item;
@@ -12,26 +14,40 @@ use model::Role;
 use model::Subject;
 use model::SubjectRow;
 use widths::grant_place;
+use widths::grant_size;
 use widths::item_place;
+use widths::item_size;
 use widths::line_place;
+use widths::line_size;
 use widths::privileges_at;
 use widths::privileges_size;
 use widths::subject_place;
+use widths::subject_size;
 
 pub fn subject_at(bytes: &[u8], layout: Layout, n: u32) -> SubjectRow
     ensures { λ r. ⌜ r ≡ getD (rowsIn (subjectFormat (widthOf layout)) (layout .subjects) (now (bytes .entry))) n noSubject ⌝ }
 {
     let table = layout.subjects;
+    let none = SubjectRow::new(Subject(0), 0, Subject(0));
     if table.used <= n {
-        return SubjectRow::new(Subject(0), 0, Subject(0));
+        return none;
     }
-    let at_parent = subject_place(layout, n);
-    let at_privileges = at_parent + 4;
-    let at_creator = at_privileges + privileges_size(layout);
+    let at = subject_place(layout, n);
+    let end = at + subject_size(layout);
+    if bytes.len() < end {
+        return none;
+    }
+    subject_in(&bytes[at..end], layout)
+}
+
+fn subject_in(row: &[u8], layout: Layout) -> SubjectRow
+    ensures { λ r. ⌜ r ≡ rowOf (subjectFormat (widthOf layout)) (now (row .entry)) ⌝ }
+{
+    let at_creator = 4 + privileges_size(layout);
     SubjectRow::new(
-        Subject(field(bytes, at_parent)),
-        privileges_at(bytes, layout, at_privileges),
-        Subject(field(bytes, at_creator)),
+        Subject(field(row, 0)),
+        privileges_at(row, layout, 4),
+        Subject(field(row, at_creator)),
     )
 }
 
@@ -39,20 +55,27 @@ pub fn grant_at(bytes: &[u8], layout: Layout, n: u32) -> GrantRow
     ensures { λ r. ⌜ r ≡ getD (rowsIn (grantFormat (widthOf layout)) (layout .grants) (now (bytes .entry))) n noGrant ⌝ }
 {
     let table = layout.grants;
+    let none = GrantRow::new(Subject(0), Role(0), Subject(0), Subject(0), 0);
     if table.used <= n {
-        return GrantRow::new(Subject(0), Role(0), Subject(0), Subject(0), 0);
+        return none;
     }
-    let at_receiver = grant_place(layout, n);
-    let at_role = at_receiver + 4;
-    let at_grantor = at_role + 4;
-    let at_domain = at_grantor + 4;
-    let at_privileges = at_domain + 4;
+    let at = grant_place(layout, n);
+    let end = at + grant_size(layout);
+    if bytes.len() < end {
+        return none;
+    }
+    grant_in(&bytes[at..end], layout)
+}
+
+fn grant_in(row: &[u8], layout: Layout) -> GrantRow
+    ensures { λ r. ⌜ r ≡ rowOf (grantFormat (widthOf layout)) (now (row .entry)) ⌝ }
+{
     GrantRow::new(
-        Subject(field(bytes, at_receiver)),
-        Role(field(bytes, at_role)),
-        Subject(field(bytes, at_grantor)),
-        Subject(field(bytes, at_domain)),
-        privileges_at(bytes, layout, at_privileges),
+        Subject(field(row, 0)),
+        Role(field(row, 4)),
+        Subject(field(row, 8)),
+        Subject(field(row, 12)),
+        privileges_at(row, layout, 16),
     )
 }
 
@@ -60,18 +83,26 @@ pub fn line_at(bytes: &[u8], layout: Layout, n: u32) -> LineRow
     ensures { λ r. ⌜ r ≡ getD (rowsIn (lineFormat (widthOf layout)) (layout .lines) (now (bytes .entry))) n noLine ⌝ }
 {
     let table = layout.lines;
+    let none = LineRow::new(Item(0), 0, Subject(0), 0);
     if table.used <= n {
-        return LineRow::new(Item(0), 0, Subject(0), 0);
+        return none;
     }
-    let at_list = line_place(layout, n);
-    let at_kind = at_list + 4;
-    let at_subject = at_kind + 4;
-    let at_privileges = at_subject + 4;
+    let at = line_place(layout, n);
+    let end = at + line_size(layout);
+    if bytes.len() < end {
+        return none;
+    }
+    line_in(&bytes[at..end], layout)
+}
+
+fn line_in(row: &[u8], layout: Layout) -> LineRow
+    ensures { λ r. ⌜ r ≡ rowOf (lineFormat (widthOf layout)) (now (row .entry)) ⌝ }
+{
     LineRow::new(
-        Item(field(bytes, at_list)),
-        field(bytes, at_kind),
-        Subject(field(bytes, at_subject)),
-        privileges_at(bytes, layout, at_privileges),
+        Item(field(row, 0)),
+        field(row, 4),
+        Subject(field(row, 8)),
+        privileges_at(row, layout, 12),
     )
 }
 
@@ -90,15 +121,20 @@ fn item_row_at(bytes: &[u8], layout: Layout, n: u32) -> ItemRow
     ensures { λ r. ⌜ r ≡ getD (rowsIn itemFormat (layout .items) (now (bytes .entry))) n noItem ⌝ }
 {
     let table = layout.items;
+    let none = ItemRow::new(Subject(0), Item(0), 0);
     if table.used <= n {
-        return ItemRow::new(Subject(0), Item(0), 0);
+        return none;
     }
-    let at_owner = item_place(layout, n);
-    let at_list = at_owner + 4;
-    let at_flags = at_list + 4;
-    ItemRow::new(
-        Subject(field(bytes, at_owner)),
-        Item(field(bytes, at_list)),
-        field(bytes, at_flags),
-    )
+    let at = item_place(layout, n);
+    let end = at + item_size(layout);
+    if bytes.len() < end {
+        return none;
+    }
+    item_in(&bytes[at..end])
+}
+
+fn item_in(row: &[u8]) -> ItemRow
+    ensures { λ r. ⌜ r ≡ rowOf itemFormat (now (row .entry)) ⌝ }
+{
+    ItemRow::new(Subject(field(row, 0)), Item(field(row, 4)), field(row, 8))
 }

@@ -9,7 +9,7 @@ use native.Mathlib.Omega.{arith}
 use borrow.Author.Tests.{le-leb, lt-leb}
 use lib.Arith.{mod-mul}
 use lib.Dec.{leb, lit<}
-use lib.ListN.{length, take, drop, length-append, length-drop}
+use lib.ListN.{length, take, drop, replicate, length-append, length-drop}
 use lib.Seq.{take-at, drop-at, take-add, drop-drop, length-take-le}
 use Rattle.model.specs.Lists.{Bytes, sum}
 use Rattle.model.specs.Image.{value, bytesOf, fieldAt, fieldsAt, rowBytes}
@@ -137,6 +137,10 @@ fields-count (w ∷ ws) s at = ap suc (fields-count ws s (at + w))
 pub fields-fit : (ws s : List ℕ) (at : ℕ) → Bytes s → Fit ws (fieldsAt ws s at)
 fields-fit [] s at b = tt
 fields-fit (w ∷ ws) s at b = (field-below w s at b, fields-fit ws s (at + w) b)
+
+pub zeros-fit : (ws : List ℕ) → Fit ws (replicate (length ws) 0)
+zeros-fit [] = tt
+zeros-fit (w ∷ ws) = (power-positive w, zeros-fit ws)
 
 pub row-length : (ws vs : List ℕ) → length vs ≡ length ws → length (rowBytes ws vs) ≡ sum ws
 row-length [] vs e = refl

@@ -1,17 +1,20 @@
 -- Rows of a table, for any format: a row by its number, rows to bytes and back. Each format's own laws are at the end.
+use mathlib.Core.Bool.{Bool, true, false, cond}
 use mathlib.Core.List.{List, [], _∷_, _++_, append-assoc}
 use mathlib.Core.Path.{_≡_, refl, sym, ap, _∙_}
 use Prim.Native.Nat.{ℕ, zero, suc, _+_, _*_, _<_, _≤_}
 use native.Mathlib.Nat.{add-comm, zero-mul, suc-mul, le-of-suc-le-suc, not-suc-le-zero}
 use native.Mathlib.Omega.{arith}
-use lib.ListN.{length, getD, take, drop, length-append, length-drop, List·getD-eq-default}
-use lib.Seq.{drop-at, take-add, drop-cons, drop-length}
+use borrow.Author.Tests.{le-leb, lt-leb}
+use lib.Dec.{leb}
+use lib.ListN.{length, getD, take, drop, replicate, length-append, length-drop, length-replicate, List·getD-eq-default}
+use lib.Seq.{drop-at, drop-drop, take-add, drop-cons, drop-length}
 use Rattle.model.specs.declared.Table.{Table}
 use Rattle.model.specs.Lists.{All, Bytes}
-use Rattle.model.specs.Image.{Format, size, rowAt, rowInBytes, rowsFrom, rowsIn, joined, fieldsAt, subjectFormat, grantFormat, lineFormat, itemFormat}
+use Rattle.model.specs.Image.{Format, size, firstRow, rowInBytes, rowsFrom, rowsIn, joined, fieldsAt, subjectFormat, grantFormat, lineFormat, itemFormat}
 use Rattle.laws.specs.Tests.{All-append}
 use Rattle.laws.specs.WellFormed.{Fits}
-use Rattle.laws.specs.Fields.{fields-drop, fields-count, fields-fit, fields-there, fields-back, row-length, row-bytes, bytes-drop}
+use Rattle.laws.specs.Fields.{fields-count, fields-fit, zeros-fit, fields-there, fields-back, row-length, row-bytes, bytes-drop}
 
 -- What makes a format one: a row is its numbers, and numbers are those of their row.
 pub record Lawful {A : Type 0} (f : Format A) : Type 0 where
@@ -25,13 +28,12 @@ module _ {A : Type 0} (f : Format A) where
   rows-from-count zero s = refl
   rows-from-count (suc n) s = ap suc (rows-from-count n (drop (size f) s))
 
-  pub row-from : (n : ℕ) (s : List ℕ) (d : A) (k : ℕ) → k < n → getD (rowsFrom f n s) k d ≡ rowAt f s (k * size f)
+  pub row-from : (n : ℕ) (s : List ℕ) (d : A) (k : ℕ) → k < n → getD (rowsFrom f n s) k d ≡ firstRow f (drop (k * size f) s)
   row-from zero s d k h = absurd (not-suc-le-zero h)
   row-from (suc n) s d zero h = rw (zero-mul (size f))
   row-from (suc n) s d (suc k) h =
       let further : size f + k * size f ≡ suc k * size f = rw (suc-mul k (size f)) (add-comm (size f) (k * size f)) in
-      row-from n (drop (size f) s) d k (le-of-suc-le-suc h)
-      ∙ ap (f .row) (fields-drop (f .widths) s (size f) (k * size f) ∙ ap (fieldsAt (f .widths) s) further)
+      row-from n (drop (size f) s) d k (le-of-suc-le-suc h) ∙ ap (firstRow f) (drop-drop (k * size f) (size f) s ∙ ap (λ (m : ℕ). drop m s) further)
 
   -- A table's rows by their number.
 
@@ -40,10 +42,9 @@ module _ {A : Type 0} (f : Format A) where
   rows-count t img = rows-from-count (t .used) (drop (t .start) img)
 
   pub row-in : (t : Table) (img : List ℕ) (d : A) (k : ℕ) → k < t .used
-      → getD (rowsIn f t img) k d ≡ rowAt f img (t .start + k * size f)
+      → getD (rowsIn f t img) k d ≡ firstRow f (drop (t .start + k * size f) img)
   unfolding rowsIn
-  row-in t img d k h =
-      row-from (t .used) (drop (t .start) img) d k h ∙ ap (f .row) (fields-drop (f .widths) img (t .start) (k * size f))
+  row-in t img d k h = row-from (t .used) (drop (t .start) img) d k h ∙ ap (firstRow f) (drop-drop (k * size f) (t .start) img)
 
   pub row-past : (t : Table) (img : List ℕ) (d : A) (k : ℕ) → t .used ≤ k → getD (rowsIn f t img) k d ≡ d
   row-past t img d k h =
@@ -56,6 +57,13 @@ module _ {A : Type 0} (f : Format A) where
   rows-next t img d k x h e =
       let there : k < length (rowsIn f t img) = rw (rows-count t img) h in
       drop-cons (rowsIn f t img) k d there ∙ ap (λ (y : A). y ∷ drop (suc k) (rowsIn f t img)) (sym e)
+
+  -- a whole row is that of its fields, and less than a row is the row of zeros
+  pub whole-row : (s : List ℕ) → size f ≤ length s → firstRow f s ≡ f .row (fieldsAt (f .widths) s 0)
+  whole-row s h = ap (λ (b : Bool). f .row (cond b (fieldsAt (f .widths) s 0) (replicate (length (f .widths)) 0))) (le-leb (size f) (length s) h)
+
+  pub part-row : (s : List ℕ) → length s < size f → firstRow f s ≡ f .row (replicate (length (f .widths)) 0)
+  part-row s h = ap (λ (b : Bool). f .row (cond b (fieldsAt (f .widths) s 0) (replicate (length (f .widths)) 0))) (lt-leb (size f) (length s) h)
 
   -- Rows to bytes and back.
 
@@ -75,8 +83,10 @@ module _ {A : Type 0} (f : Format A) where
     pub rows-there : (xs : List A) (z : List ℕ) → All (Fits f) xs → rowsFrom f (length xs) (joined f xs ++ z) ≡ xs
     rows-there [] z h = refl
     rows-there (x ∷ xs) z h =
-        let row : f .row (fieldsAt (f .widths) (rowInBytes f x ++ (joined f xs ++ z)) 0) ≡ x =
-        rw (fields-there (f .widths) (f .numbers x) (joined f xs ++ z) (law .counted x) (h .0)) (law .there x) in
+        let long : size f ≤ length (rowInBytes f x ++ (joined f xs ++ z)) = simp (length-append, row-long x) (omega arith) in
+        let row : firstRow f (rowInBytes f x ++ (joined f xs ++ z)) ≡ x =
+        whole-row (rowInBytes f x ++ (joined f xs ++ z)) long
+        ∙ rw (fields-there (f .widths) (f .numbers x) (joined f xs ++ z) (law .counted x) (h .0)) (law .there x) in
         let rest : drop (size f) (rowInBytes f x ++ (joined f xs ++ z)) ≡ joined f xs ++ z =
         drop-at (rowInBytes f x) (joined f xs ++ z) (size f) (row-long x) in
         rw (append-assoc, row, rest, rows-there xs z (h .1))
@@ -87,8 +97,8 @@ module _ {A : Type 0} (f : Format A) where
         let whole : size f + n * size f ≤ length s = rw (suc-mul n (size f), add-comm (n * size f) (size f)) at h in
         let first-room : size f ≤ length s = omega arith in
         let rest-room : n * size f ≤ length (drop (size f) s) = simp length-drop (omega arith) in
-        let numbers : f .numbers (rowAt f s 0) ≡ fieldsAt (f .widths) s 0 =
-        law .back (fieldsAt (f .widths) s 0) (fields-count (f .widths) s 0) in
+        let numbers : f .numbers (firstRow f s) ≡ fieldsAt (f .widths) s 0 =
+        ap (f .numbers) (whole-row s first-room) ∙ law .back (fieldsAt (f .widths) s 0) (fields-count (f .widths) s 0) in
         rw (
           numbers,
           fields-back (f .widths) s b first-room,
@@ -99,10 +109,17 @@ module _ {A : Type 0} (f : Format A) where
         )
 
     -- What is read from bytes fits its fields.
+    row-fits : (s : List ℕ) → Bytes s → Fits f (firstRow f s)
+    row-fits s b = either (leb (size f) (length s))
+      where
+        either : (whole : Bool) → Fits f (f .row (cond whole (fieldsAt (f .widths) s 0) (replicate (length (f .widths)) 0)))
+        either true = rw (law .back (fieldsAt (f .widths) s 0) (fields-count (f .widths) s 0)) (fields-fit (f .widths) s 0 b)
+        either false = rw (law .back (replicate (length (f .widths)) 0) (length-replicate (length (f .widths)) 0)) (zeros-fit (f .widths))
+
     pub rows-fit : (n : ℕ) (s : List ℕ) → Bytes s → All (Fits f) (rowsFrom f n s)
     rows-fit zero s b = tt
     rows-fit (suc n) s b = (
-      rw (law .back (fieldsAt (f .widths) s 0) (fields-count (f .widths) s 0)) (fields-fit (f .widths) s 0 b),
+      row-fits s b,
       rows-fit n (drop (size f) s) (bytes-drop (size f) s b),
     )
 

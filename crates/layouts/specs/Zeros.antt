@@ -1,33 +1,44 @@
--- Question 7: whether bytes are all zero, looked at one by one, and the bytes between two places that may lie past the end.
-use mathlib.Core.Bool.{Bool, true, false}
+-- Question 7: whether bytes are all zero, all of them looked at, and the bytes between two places that may lie past the end.
+use mathlib.Core.Bool.{Bool, true, _&&_, and-assoc, and-true}
 use mathlib.Core.List.{List}
+use mathlib.Core.Logic.{⊎-elim}
 use mathlib.Core.Path.{_≡_, refl, sym, _∙_}
 use Prim.Native.Nat.{ℕ, suc, _+_, _-_, _<_, _≤_}
+use native.Mathlib.Nat.{eq-zero-or-pos}
 use native.Mathlib.Omega.{arith}
-use borrow.Author.Tests.{eq-eqb, ne-eqb}
+use borrow.Author.Tests.{ne-eqb}
+use lib.Bits.{bitOr, or-zero-l, or-add-and, and-le-r}
+use lib.Dec.{eqb}
 use lib.ListN.{length, getD, take, drop, length-drop, drop-of-length-le}
 use lib.Seq.{drop-cons, take-all, take-nil}
 use Rattle.model.specs.Lists.{zeros}
 
+-- two sets of bits are both empty where what they have together is
+or-empty : (a b : ℕ) → eqb (bitOr a b) 0 ≡ (eqb a 0 && eqb b 0)
+or-empty a b =
+    ⊎-elim
+    (λ (none : a ≡ 0). rw (none, or-zero-l))
+    (λ (some : 0 < a).
+    let more : 0 < bitOr a b = omega (arith, or-add-and a b, and-le-r a b) in
+    rw (ne-eqb a 0 (λ z. omega arith), ne-eqb (bitOr a b) 0 (λ z. omega arith)))
+    (eq-zero-or-pos a)
+
 module _ (s : List ℕ) where
-  -- the first n bytes are zero, and the others are still to be looked at
-  pub record Zero (n : ℕ) : Type 0 where
+  -- the bits of the first n bytes were seen together, and the other bytes are still to be looked at
+  pub record Seen (n seen : ℕ) : Type 0 where
     pub inside : n ≤ length s
-    pub rest : zeros s ≡ zeros (drop n s)
+    pub rest : zeros s ≡ (eqb seen 0 && zeros (drop n s))
 
-  pub zero-start : Zero 0
-  zero-start = record { inside = omega arith; rest = refl }
+  pub seen-none : Seen 0 0
+  seen-none = record { inside = omega arith; rest = refl }
 
-  pub zero-no : (n : ℕ) → Zero n → n < length s → (getD s n 0 ≡ 0 → ⊥) → false ≡ zeros s
-  zero-no n z h d = sym (z .rest ∙ rw (drop-cons s n 0 h, ne-eqb (getD s n 0) 0 d))
-
-  pub zero-next : (n : ℕ) → Zero n → n < length s → getD s n 0 ≡ 0 → Zero (n + 1)
-  zero-next n z h e =
+  pub seen-one : (n seen : ℕ) → Seen n seen → n < length s → Seen (n + 1) (bitOr seen (getD s n 0))
+  seen-one n seen z h =
       let one : n + 1 ≡ suc n = omega arith in
-      rw one (record { inside = h; rest = z .rest ∙ rw (drop-cons s n 0 h, eq-eqb (getD s n 0) 0 e) })
+      rw one (record { inside = h; rest = z .rest ∙ rw (drop-cons s n 0 h, or-empty, and-assoc) })
 
-  pub zero-end : (n : ℕ) → Zero n → length s ≤ n → true ≡ zeros s
-  zero-end n z h = sym (z .rest ∙ rw (drop-of-length-le s {i = n} h))
+  pub seen-all : (n seen : ℕ) → Seen n seen → length s ≤ n → eqb seen 0 ≡ zeros s
+  seen-all n seen z h = sym (z .rest ∙ rw (drop-of-length-le s {i = n} h) (and-true (eqb seen 0)))
 
 -- The bytes between two places. They end at the second, or where all bytes end if that comes first: `end` is either.
 module _ (s : List ℕ) (from to end : ℕ) where

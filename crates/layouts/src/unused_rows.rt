@@ -44,15 +44,15 @@ fn zero_between(image: &[u8], from: usize, to: usize) -> bool
     is_zero(&image[from..end])
 }
 
+// Every byte is looked at: a pass that may end at any byte could not take many at once.
 fn is_zero(bytes: &[u8]) -> bool
     ensures { λ r. ⌜ r ≡ zeros (now (bytes .entry)) ⌝ }
 {
+    let mut seen = 0;
     let mut n = 0;
     while n < bytes.len() {
-        if bytes[n] != 0 {
-            return false;
-        }
+        seen = seen | bytes[n];
         n += 1;
     }
-    true
+    seen == 0
 }

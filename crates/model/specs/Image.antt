@@ -49,9 +49,9 @@ module _ {A : Type 0} (f : Format A) where
   abbrev pub size : ℕ
   size = sum (f .widths)
 
-  -- the row at a place of s, and a row's bytes
-  abbrev pub rowAt : List ℕ → ℕ → A
-  rowAt s at = f .row (fieldsAt (f .widths) s at)
+  -- the row that s begins with, and a row's bytes; less than a row is the row of zeros
+  abbrev pub firstRow : List ℕ → A
+  firstRow s = f .row (cond (leb size (length s)) (fieldsAt (f .widths) s 0) (replicate (length (f .widths)) 0))
 
   abbrev pub rowInBytes : A → List ℕ
   rowInBytes x = rowBytes (f .widths) (f .numbers x)
@@ -167,7 +167,7 @@ module _ {A : Type 0} (f : Format A) where
   -- the first n rows of s
   abbrev pub rowsFrom : ℕ → List ℕ → List A
   rowsFrom zero s = []
-  rowsFrom (suc n) s = rowAt f s 0 ∷ rowsFrom n (drop (size f) s)
+  rowsFrom (suc n) s = firstRow f s ∷ rowsFrom n (drop (size f) s)
 
   -- the rows of a table that are in use, and its capacity
   unfoldable pub rowsIn : Table → List ℕ → List A

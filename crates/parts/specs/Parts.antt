@@ -1,10 +1,14 @@
 -- The lines' part and what a grant adds, case by case as the code goes.
-use mathlib.Core.Bool.{Bool, true, false, not}
-use mathlib.Core.Path.{_≡_}
-use Prim.Native.Nat.{ℕ}
+use mathlib.Core.Bool.{Bool, true, false, not, cond}
+use mathlib.Core.List.{List}
+use mathlib.Core.Option.{Option, none}
+use mathlib.Core.Path.{_≡_, refl}
+use Prim.Native.Nat.{ℕ, zero, suc}
 use borrow.Author.Tests.{eq-eqb, ne-eqb}
+use lib.Dec.{eqb, ltb}
 use Rattle.model.specs.declared.GrantRow.{GrantRow}
 use Rattle.model.specs.declared.ItemRow.{ItemRow}
+use Rattle.model.specs.declared.LineRow.{LineRow}
 use Rattle.model.specs.declared.SoughtLine.{SoughtLine}
 use Rattle.model.specs.declared.SoughtGrant.{SoughtGrant}
 use Rattle.model.specs.declared.SoughtGrant.the-variants.{Grant, NoGrant}
@@ -12,13 +16,37 @@ use Rattle.model.specs.Lists.{orElse}
 use Rattle.model.specs.Tree.{inTree}
 use Rattle.model.specs.WhoAndWhat.{everything, _∪_, _∩_}
 use Rattle.model.specs.Image.{Tables, widthIn, itemIn, parentIn, privilegesIn, everyoneKind}
-use Rattle.model.specs.Permission.{foundLine, foundGrant, lineIn, lineSet, directLine, groupLine, partOf, linesPart, lentOperations, lentPart}
+use Rattle.model.specs.Permission.{foundLine, foundGrant, lineIn, lineSet, directLine, groupWithin, groupLine, partOf, linesPart, lentOperations, lentPart}
 use Rattle.laws.specs.Tests.{said-no, said-yes}
+
+-- no list, no lines: neither direct nor of a group
+
+no-group : (n : ℕ) (up : ℕ → ℕ) (lines : List LineRow) (s : ℕ) → groupWithin n up lines 0 s ≡ none
+unfolding groupWithin
+no-group zero up lines s = refl
+no-group (suc n) up lines s = rw (no-group n up lines (up s)) (either (ltb (up s) s))
+  where
+    either : (b : Bool) → cond b (orElse {A = LineRow} none none) none ≡ none
+    either true = refl
+    either false = refl
+
+no-direct : (lines : List LineRow) (o s : ℕ) → directLine lines o 0 s ≡ none
+unfolding directLine
+no-direct lines o s = either (eqb s o)
+  where
+    either : (b : Bool) → _≡_ {A = Option LineRow} (cond b none none) none
+    either true = refl
+    either false = refl
 
 module _ (t : Tables) (s i r : ℕ) where
   pub part-custodian : s ≡ 0 → r ≡ everything (widthIn t) → r ≡ linesPart t s i
   unfolding partOf
   part-custodian h e = rw (eq-eqb s 0 h) e
+
+  pub part-unlisted : (row : ItemRow) → (s ≡ 0 → ⊥) → row ≡ itemIn (t .items) i → row .list .0 ≡ 0 → 0 ≡ linesPart t s i
+  unfolding partOf groupLine
+  part-unlisted row h there unlisted =
+      rw (ne-eqb s 0 h, ← there, unlisted, no-direct (t .lines) (row .owner .0) s, no-group s (parentIn (t .subjects)) (t .lines) s)
 
   pub part-other : (row : ItemRow) (d e : SoughtLine) (a b : ℕ)
       → (s ≡ 0 → ⊥)

@@ -29,7 +29,7 @@ pub fn line_set(found: SoughtLine) -> Privileges
     }
 }
 
-// The lines' part of a subject on an item.
+// The lines' part of a subject on an item. No list means no lines, so there is no group to look for.
 pub fn lines_part(image: &[u8], layout: Layout, subject: Subject, item: Item) -> Privileges
     ensures { λ r. ⌜ r ≡ linesPart (tablesBy layout (now (image .entry))) (subject .0) (item .0) ⌝ }
 {
@@ -37,6 +37,9 @@ pub fn lines_part(image: &[u8], layout: Layout, subject: Subject, item: Item) ->
         return all_privileges(layout);
     }
     let row = item_at(image, layout, item);
+    if row.list.0 == 0 {
+        return 0;
+    }
     let decides = deciding_line(image, layout, row.owner, row.list, subject);
     let everyone = line_of(image, layout, row.list, LineRow::EVERYONE, Subject(0));
     union(line_set(decides), line_set(everyone))

@@ -1,7 +1,7 @@
--- `parts::lines_part` meets its contract: the custodian, or the deciding line and the line for everyone.
+-- `parts::lines_part` meets its contract: the custodian, no list, or the deciding line and the line for everyone.
 use borrow.Author.Needs.{needs}
 use Rattle.model.specs.Image.{tablesBy}
-use Rattle.parts.specs.Parts.{part-custodian, part-other}
+use Rattle.parts.specs.Parts.{part-custodian, part-unlisted, part-other}
 use Rattle.parts.proofs.lines_part.Statement.{statement}
 use Rattle.parts.proofs.lines_part.Tie as tie
 
@@ -13,6 +13,10 @@ returns c = search part-custodian
 
 item-at-requires : tie.Need-item-at-requires
 item-at-requires c κs = search needs
+
+returns-2 : tie.Need-returns-2
+unfolding tablesBy
+returns-2 c = search part-unlisted
 
 deciding-line-requires : tie.Need-deciding-line-requires
 deciding-line-requires c κs = search needs
@@ -29,9 +33,9 @@ line-set-requires-2 c κs = search needs
 union-requires : tie.Need-union-requires
 union-requires c κs = search needs
 
-returns-2 : tie.Need-returns-2
+returns-3 : tie.Need-returns-3
 unfolding tablesBy
-returns-2 c = search part-other
+returns-3 c = search part-other
 
 pub lines-part-spec : {M : Type 1} → statement M
 lines-part-spec =
@@ -40,9 +44,10 @@ lines-part-spec =
     all-privileges-requires
     returns
     item-at-requires
+    returns-2
     deciding-line-requires
     line-of-requires
     line-set-requires
     line-set-requires-2
     union-requires
-    returns-2)
+    returns-3)

@@ -1,6 +1,7 @@
--- `codec::read_rows::grant_at` meets its contract: past the rows in use it makes the row of zeros, and else the row of the fields at the row's place.
+-- `codec::read_rows::grant_at` meets its contract: the row of zeros past the rows in use and past the end, and else the row of the bytes at the row's place.
 use borrow.Author.Needs.{needs}
-use Rattle.codec.specs.RowLaws.{row-read, row-unused}
+use Rattle.laws.specs.Rows.{grant-lawful}
+use Rattle.codec.specs.RowLaws.{row-unused, row-out, row-whole}
 use Rattle.codec.proofs.read_rows.grant_at.Statement.{statement}
 use Rattle.codec.proofs.read_rows.grant_at.Tie as tie
 
@@ -13,38 +14,29 @@ returns c = search row-unused
 grant-place-requires : tie.Need-grant-place-requires
 grant-place-requires c κs = search needs
 
-add-at-role : tie.Need-add-at-role
-add-at-role c = search needs
+grant-size-requires : tie.Need-grant-size-requires
+grant-size-requires c κs = search needs
 
-add-at-grantor : tie.Need-add-at-grantor
-add-at-grantor c = search needs
-
-add-at-domain : tie.Need-add-at-domain
-add-at-domain c = search needs
-
-add-at-privileges : tie.Need-add-at-privileges
-add-at-privileges c = search needs
-
-field-requires : tie.Need-field-requires
-field-requires c κs = search needs
-
-field-requires-2 : tie.Need-field-requires-2
-field-requires-2 c κs = search needs
-
-field-requires-3 : tie.Need-field-requires-3
-field-requires-3 c κs = search needs
-
-field-requires-4 : tie.Need-field-requires-4
-field-requires-4 c κs = search needs
-
-privileges-at-requires : tie.Need-privileges-at-requires
-privileges-at-requires c κs = search needs
-
-new-requires-2 : tie.Need-new-requires-2
-new-requires-2 c κs = search needs
+add-end : tie.Need-add-end
+add-end c = search needs
 
 returns-2 : tie.Need-returns-2
-returns-2 c = row-read _ _ _ _ _ _ (search needs) (cc)
+returns-2 c = search (row-out, grant-lawful)
+
+sub-grant-in : tie.Need-sub-grant-in
+sub-grant-in c = search needs
+
+part-grant-in-start : tie.Need-part-grant-in-start
+part-grant-in-start c = search needs
+
+part-grant-in-end : tie.Need-part-grant-in-end
+part-grant-in-end c = search needs
+
+grant-in-requires : tie.Need-grant-in-requires
+grant-in-requires c κs = search needs
+
+returns-3 : tie.Need-returns-3
+returns-3 c = search row-whole
 
 pub grant-at-spec : {M : Type 1} → statement M
 grant-at-spec =
@@ -53,14 +45,11 @@ grant-at-spec =
     new-requires
     returns
     grant-place-requires
-    add-at-role
-    add-at-grantor
-    add-at-domain
-    add-at-privileges
-    field-requires
-    field-requires-2
-    field-requires-3
-    field-requires-4
-    privileges-at-requires
-    new-requires-2
-    returns-2)
+    grant-size-requires
+    add-end
+    returns-2
+    sub-grant-in
+    part-grant-in-start
+    part-grant-in-end
+    grant-in-requires
+    returns-3)

@@ -1,6 +1,7 @@
--- `codec::read_rows::item_row_at` meets its contract: past the rows in use it makes the row of zeros, and else the row of the fields at the row's place.
+-- `codec::read_rows::item_row_at` meets its contract: the row of zeros past the rows in use and past the end, and else the row of the bytes at the row's place.
 use borrow.Author.Needs.{needs}
-use Rattle.codec.specs.RowLaws.{row-read, row-unused}
+use Rattle.laws.specs.Rows.{item-lawful}
+use Rattle.codec.specs.RowLaws.{row-unused, row-out, row-whole}
 use Rattle.codec.proofs.read_rows.item_row_at.Statement.{statement}
 use Rattle.codec.proofs.read_rows.item_row_at.Tie as tie
 
@@ -13,26 +14,29 @@ returns c = search row-unused
 item-place-requires : tie.Need-item-place-requires
 item-place-requires c κs = search needs
 
-add-at-list : tie.Need-add-at-list
-add-at-list c = search needs
+item-size-requires : tie.Need-item-size-requires
+item-size-requires c κs = search needs
 
-add-at-flags : tie.Need-add-at-flags
-add-at-flags c = search needs
-
-field-requires : tie.Need-field-requires
-field-requires c κs = search needs
-
-field-requires-2 : tie.Need-field-requires-2
-field-requires-2 c κs = search needs
-
-field-requires-3 : tie.Need-field-requires-3
-field-requires-3 c κs = search needs
-
-new-requires-2 : tie.Need-new-requires-2
-new-requires-2 c κs = search needs
+add-end : tie.Need-add-end
+add-end c = search needs
 
 returns-2 : tie.Need-returns-2
-returns-2 c = row-read _ _ _ _ _ _ (search needs) (cc)
+returns-2 c = search (row-out, item-lawful)
+
+sub-item-in : tie.Need-sub-item-in
+sub-item-in c = search needs
+
+part-item-in-start : tie.Need-part-item-in-start
+part-item-in-start c = search needs
+
+part-item-in-end : tie.Need-part-item-in-end
+part-item-in-end c = search needs
+
+item-in-requires : tie.Need-item-in-requires
+item-in-requires c κs = search needs
+
+returns-3 : tie.Need-returns-3
+returns-3 c = search row-whole
 
 pub item-row-at-spec : {M : Type 1} → statement M
 item-row-at-spec =
@@ -41,10 +45,11 @@ item-row-at-spec =
     new-requires
     returns
     item-place-requires
-    add-at-list
-    add-at-flags
-    field-requires
-    field-requires-2
-    field-requires-3
-    new-requires-2
-    returns-2)
+    item-size-requires
+    add-end
+    returns-2
+    sub-item-in
+    part-item-in-start
+    part-item-in-end
+    item-in-requires
+    returns-3)

@@ -1,6 +1,7 @@
--- `codec::read_rows::line_at` meets its contract: past the rows in use it makes the row of zeros, and else the row of the fields at the row's place.
+-- `codec::read_rows::line_at` meets its contract: the row of zeros past the rows in use and past the end, and else the row of the bytes at the row's place.
 use borrow.Author.Needs.{needs}
-use Rattle.codec.specs.RowLaws.{row-read, row-unused}
+use Rattle.laws.specs.Rows.{line-lawful}
+use Rattle.codec.specs.RowLaws.{row-unused, row-out, row-whole}
 use Rattle.codec.proofs.read_rows.line_at.Statement.{statement}
 use Rattle.codec.proofs.read_rows.line_at.Tie as tie
 
@@ -13,32 +14,29 @@ returns c = search row-unused
 line-place-requires : tie.Need-line-place-requires
 line-place-requires c κs = search needs
 
-add-at-kind : tie.Need-add-at-kind
-add-at-kind c = search needs
+line-size-requires : tie.Need-line-size-requires
+line-size-requires c κs = search needs
 
-add-at-subject : tie.Need-add-at-subject
-add-at-subject c = search needs
-
-add-at-privileges : tie.Need-add-at-privileges
-add-at-privileges c = search needs
-
-field-requires : tie.Need-field-requires
-field-requires c κs = search needs
-
-field-requires-2 : tie.Need-field-requires-2
-field-requires-2 c κs = search needs
-
-field-requires-3 : tie.Need-field-requires-3
-field-requires-3 c κs = search needs
-
-privileges-at-requires : tie.Need-privileges-at-requires
-privileges-at-requires c κs = search needs
-
-new-requires-2 : tie.Need-new-requires-2
-new-requires-2 c κs = search needs
+add-end : tie.Need-add-end
+add-end c = search needs
 
 returns-2 : tie.Need-returns-2
-returns-2 c = row-read _ _ _ _ _ _ (search needs) (cc)
+returns-2 c = search (row-out, line-lawful)
+
+sub-line-in : tie.Need-sub-line-in
+sub-line-in c = search needs
+
+part-line-in-start : tie.Need-part-line-in-start
+part-line-in-start c = search needs
+
+part-line-in-end : tie.Need-part-line-in-end
+part-line-in-end c = search needs
+
+line-in-requires : tie.Need-line-in-requires
+line-in-requires c κs = search needs
+
+returns-3 : tie.Need-returns-3
+returns-3 c = search row-whole
 
 pub line-at-spec : {M : Type 1} → statement M
 line-at-spec =
@@ -47,12 +45,11 @@ line-at-spec =
     new-requires
     returns
     line-place-requires
-    add-at-kind
-    add-at-subject
-    add-at-privileges
-    field-requires
-    field-requires-2
-    field-requires-3
-    privileges-at-requires
-    new-requires-2
-    returns-2)
+    line-size-requires
+    add-end
+    returns-2
+    sub-line-in
+    part-line-in-start
+    part-line-in-end
+    line-in-requires
+    returns-3)

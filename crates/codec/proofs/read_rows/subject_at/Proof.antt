@@ -1,6 +1,7 @@
--- `codec::read_rows::subject_at` meets its contract: past the rows in use it makes the row of zeros, and else the row of the fields at the row's place.
+-- `codec::read_rows::subject_at` meets its contract: the row of zeros past the rows in use and past the end, and else the row of the bytes at the row's place.
 use borrow.Author.Needs.{needs}
-use Rattle.codec.specs.RowLaws.{row-read, row-unused}
+use Rattle.laws.specs.Rows.{subject-lawful}
+use Rattle.codec.specs.RowLaws.{row-unused, row-out, row-whole}
 use Rattle.codec.proofs.read_rows.subject_at.Statement.{statement}
 use Rattle.codec.proofs.read_rows.subject_at.Tie as tie
 
@@ -13,29 +14,29 @@ returns c = search row-unused
 subject-place-requires : tie.Need-subject-place-requires
 subject-place-requires c κs = search needs
 
-add-at-privileges : tie.Need-add-at-privileges
-add-at-privileges c = search needs
+subject-size-requires : tie.Need-subject-size-requires
+subject-size-requires c κs = search needs
 
-privileges-size-requires : tie.Need-privileges-size-requires
-privileges-size-requires c κs = search needs
-
-add-at-creator : tie.Need-add-at-creator
-add-at-creator c = search needs
-
-field-requires : tie.Need-field-requires
-field-requires c κs = search needs
-
-privileges-at-requires : tie.Need-privileges-at-requires
-privileges-at-requires c κs = search needs
-
-field-requires-2 : tie.Need-field-requires-2
-field-requires-2 c κs = search needs
-
-new-requires-2 : tie.Need-new-requires-2
-new-requires-2 c κs = search needs
+add-end : tie.Need-add-end
+add-end c = search needs
 
 returns-2 : tie.Need-returns-2
-returns-2 c = row-read _ _ _ _ _ _ (search needs) (cc)
+returns-2 c = search (row-out, subject-lawful)
+
+sub-subject-in : tie.Need-sub-subject-in
+sub-subject-in c = search needs
+
+part-subject-in-start : tie.Need-part-subject-in-start
+part-subject-in-start c = search needs
+
+part-subject-in-end : tie.Need-part-subject-in-end
+part-subject-in-end c = search needs
+
+subject-in-requires : tie.Need-subject-in-requires
+subject-in-requires c κs = search needs
+
+returns-3 : tie.Need-returns-3
+returns-3 c = search row-whole
 
 pub subject-at-spec : {M : Type 1} → statement M
 subject-at-spec =
@@ -44,11 +45,11 @@ subject-at-spec =
     new-requires
     returns
     subject-place-requires
-    add-at-privileges
-    privileges-size-requires
-    add-at-creator
-    field-requires
-    privileges-at-requires
-    field-requires-2
-    new-requires-2
-    returns-2)
+    subject-size-requires
+    add-end
+    returns-2
+    sub-subject-in
+    part-subject-in-start
+    part-subject-in-end
+    subject-in-requires
+    returns-3)

@@ -1,26 +1,23 @@
--- `layouts::unused_rows::is_zero` meets its contract: the bytes passed are all zero.
+-- `layouts::unused_rows::is_zero` meets its contract: the bits of the bytes passed were seen together.
 use Prim.Native.Nat.{_-_}
 use native.Mathlib.Omega.{arith}
 use borrow.Author.Needs.{needs}
 use lib.ListN.{length}
-use Rattle.layouts.specs.Zeros.{Zero, zero-start, zero-no, zero-next, zero-end}
+use Rattle.layouts.specs.Zeros.{Seen, seen-none, seen-one, seen-all}
 use Rattle.layouts.proofs.unused_rows.is_zero.Statement.{statement}
 use Rattle.layouts.proofs.unused_rows.is_zero.Tie as tie
 
 abbrev Inv-loop : tie.InvT-loop
-Inv-loop bytes n₀ n = Zero bytes n
+Inv-loop bytes seen₀ n₀ seen n = Seen bytes n seen
 
 abbrev μ-loop : tie.MeasureT-loop
-μ-loop bytes n₀ n = length bytes - n
+μ-loop bytes seen₀ n₀ seen n = length bytes - n
 
 loop-holds : tie.Need-loop-holds Inv-loop μ-loop
-loop-holds c = search zero-start
+loop-holds c = search seen-none
 
-shared-slice-read-if1 : tie.Need-shared-slice-read-if1 Inv-loop μ-loop
-shared-slice-read-if1 c = search needs
-
-returns : tie.Need-returns Inv-loop μ-loop
-returns c = search zero-no
+shared-slice-read-seen : tie.Need-shared-slice-read-seen Inv-loop μ-loop
+shared-slice-read-seen c = search needs
 
 add-n : tie.Need-add-n Inv-loop μ-loop
 add-n c = omega arith
@@ -29,21 +26,12 @@ loop-less : tie.Need-loop-less Inv-loop μ-loop
 loop-less c = omega arith
 
 loop-again : tie.Need-loop-again Inv-loop μ-loop
-loop-again c = search zero-next
+loop-again c = search seen-one
 
-returns-2 : tie.Need-returns-2 Inv-loop μ-loop
-returns-2 c = search zero-end
+returns : tie.Need-returns Inv-loop μ-loop
+returns c = search seen-all
 
 pub is-zero-spec : {M : Type 1} → statement M
 is-zero-spec =
     tie.close
-    (tie.spec
-    Inv-loop
-    μ-loop
-    loop-holds
-    shared-slice-read-if1
-    returns
-    add-n
-    loop-less
-    loop-again
-    returns-2)
+    (tie.spec Inv-loop μ-loop loop-holds shared-slice-read-seen add-n loop-less loop-again returns)
