@@ -20,4 +20,4 @@ archive:
 # The library beside the independent Rust implementation, in one run. Not in the gate.
 bench: archive
 	rt check report
-	cd rust && cargo bench --offline
+	cd rust && cargo bench --offline --bench tables

@@ -14,6 +14,29 @@ fn every_function_from_c() {
     assert_eq!(ended.code(), Some(0), "a check of calls.c failed");
 }
 
+/// The first program of the README prints what the README says.
+#[test]
+fn the_readme_from_c() {
+    let readme = std::fs::read_to_string(here().join("../README.md")).expect("there is a README");
+    let source = Path::new(env!("CARGO_TARGET_TMPDIR")).join("readme.c");
+    std::fs::write(&source, block(&readme, "c")).expect("cargo's folder for tests takes a file");
+    let program = compile(&source, "readme");
+    let ended = Command::new(&program).output().expect("the program starts");
+    assert!(ended.status.success());
+    assert_eq!(
+        String::from_utf8_lossy(&ended.stdout),
+        block(&readme, "text")
+    );
+}
+
+/// The first fenced block of a language.
+fn block<'a>(text: &'a str, language: &str) -> &'a str {
+    let (_, rest) = text
+        .split_once(&format!("```{language}\n"))
+        .expect("there is a block in that language");
+    rest.split_once("```").expect("the block ends").0
+}
+
 /// Compiles a C program against the header, links it with the archive and answers where it is.
 fn compile(source: &Path, name: &str) -> PathBuf {
     let folder = Path::new(env!("CARGO_TARGET_TMPDIR")).join("c_program");

@@ -32,21 +32,22 @@ module _ {A : Type 0} (f : Format A) (t : Table) (img : List ℕ) (d : A) (k : �
   pub row-unused : t .used ≤ k → r ≡ d → r ≡ getD (rowsIn f t img) k d
   row-unused h e = e ∙ sym (row-past f t img d k h)
 
-  -- n is a row's bytes, and `end` the place before which they end
-  module _ (used : k < t .used) (at : ℕ) (place : at ≡ t .start + k * size f) (n : ℕ) (wide : n ≡ size f) (end : ℕ) (ends : end ≡ at + n) where
+  -- n is a row's bytes, and at each place below m there are so many
+  module _ (used : k < t .used) (at : ℕ) (place : at ≡ t .start + k * size f) (n : ℕ) (wide : n ≡ size f) (m : ℕ) (places : m ≡ length img + 1 - n) where
     read : getD (rowsIn f t img) k d ≡ firstRow f (drop at img)
     read = rw place (row-in f t img d k used)
 
-    pub row-out : Lawful f → d ≡ f .row (replicate (length (f .widths)) 0) → length img < end → r ≡ d → r ≡ getD (rowsIn f t img) k d
+    pub row-out : Lawful f → d ≡ f .row (replicate (length (f .widths)) 0) → m ≤ at → r ≡ d → r ≡ getD (rowsIn f t img) k d
     row-out law none out e =
         let short : length (drop at img) < size f = simp length-drop (omega (arith, law .wide)) in
         e ∙ none ∙ sym (read ∙ part-row f (drop at img) short)
 
-    pub row-whole : end ≤ length img → r ≡ rowOf f (take (end - at) (drop at img)) → r ≡ getD (rowsIn f t img) k d
+    pub row-whole : at < m → r ≡ rowOf f (take (at + n - at) (drop at img)) → r ≡ getD (rowsIn f t img) k d
     row-whole inside e =
-        let m : end - at ≡ size f = omega arith in
+        let end : ℕ = at + n in
+        let long-is : end - at ≡ size f = omega arith in
         let room : size f ≤ length (drop at img) = simp length-drop (omega arith) in
-        let long : length (take (end - at) (drop at img)) ≡ size f = length-take-le (end - at) (drop at img) (omega arith) ∙ m in
+        let long : length (take (end - at) (drop at img)) ≡ size f = length-take-le (end - at) (drop at img) (omega arith) ∙ long-is in
         let same : fieldsAt (f .widths) (drop at img) 0 ≡ fieldsAt (f .widths) (take (end - at) (drop at img)) 0 =
         ap (λ (b : List ℕ). fieldsAt (f .widths) b 0) (sym (take-append-drop (end - at) (drop at img)))
         ∙ fields-front (f .widths) (take (end - at) (drop at img)) (drop (end - at) (drop at img)) 0 (omega arith) in

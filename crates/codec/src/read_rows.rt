@@ -4,6 +4,7 @@ ghost use mathlib.Core.Path.{_≡_};
 ghost use lib.ListN.{getD};
 ghost use Rattle.model.specs.Image.{rowsIn, itemIn, widthOf, subjectFormat, noSubject, grantFormat, noGrant, lineFormat, noLine, itemFormat, noItem};
 ghost use Rattle.codec.specs.RowLaws.{rowOf};
+use edits::places;
 use fields::field;
 use model::GrantRow;
 use model::Item;
@@ -33,10 +34,11 @@ pub fn subject_at(bytes: &[u8], layout: Layout, n: u32) -> SubjectRow
         return none;
     }
     let at = subject_place(layout, n);
-    let end = at + subject_size(layout);
-    if bytes.len() < end {
+    let size = subject_size(layout);
+    if places(bytes, size) <= at {
         return none;
     }
+    let end = at + size;
     subject_in(&bytes[at..end], layout)
 }
 
@@ -60,10 +62,11 @@ pub fn grant_at(bytes: &[u8], layout: Layout, n: u32) -> GrantRow
         return none;
     }
     let at = grant_place(layout, n);
-    let end = at + grant_size(layout);
-    if bytes.len() < end {
+    let size = grant_size(layout);
+    if places(bytes, size) <= at {
         return none;
     }
+    let end = at + size;
     grant_in(&bytes[at..end], layout)
 }
 
@@ -88,10 +91,11 @@ pub fn line_at(bytes: &[u8], layout: Layout, n: u32) -> LineRow
         return none;
     }
     let at = line_place(layout, n);
-    let end = at + line_size(layout);
-    if bytes.len() < end {
+    let size = line_size(layout);
+    if places(bytes, size) <= at {
         return none;
     }
+    let end = at + size;
     line_in(&bytes[at..end], layout)
 }
 
@@ -126,10 +130,11 @@ fn item_row_at(bytes: &[u8], layout: Layout, n: u32) -> ItemRow
         return none;
     }
     let at = item_place(layout, n);
-    let end = at + item_size(layout);
-    if bytes.len() < end {
+    let size = item_size(layout);
+    if places(bytes, size) <= at {
         return none;
     }
+    let end = at + size;
     item_in(&bytes[at..end])
 }
 

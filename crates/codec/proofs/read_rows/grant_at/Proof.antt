@@ -17,11 +17,14 @@ grant-place-requires c κs = search needs
 grant-size-requires : tie.Need-grant-size-requires
 grant-size-requires c κs = search needs
 
-add-end : tie.Need-add-end
-add-end c = search needs
+places-requires : tie.Need-places-requires
+places-requires c κs = search needs
 
 returns-2 : tie.Need-returns-2
 returns-2 c = search (row-out, grant-lawful)
+
+add-end : tie.Need-add-end
+add-end c = search needs
 
 sub-grant-in : tie.Need-sub-grant-in
 sub-grant-in c = search needs
@@ -46,8 +49,9 @@ grant-at-spec =
     returns
     grant-place-requires
     grant-size-requires
-    add-end
+    places-requires
     returns-2
+    add-end
     sub-grant-in
     part-grant-in-start
     part-grant-in-end

@@ -17,11 +17,14 @@ item-place-requires c κs = search needs
 item-size-requires : tie.Need-item-size-requires
 item-size-requires c κs = search needs
 
-add-end : tie.Need-add-end
-add-end c = search needs
+places-requires : tie.Need-places-requires
+places-requires c κs = search needs
 
 returns-2 : tie.Need-returns-2
 returns-2 c = search (row-out, item-lawful)
+
+add-end : tie.Need-add-end
+add-end c = search needs
 
 sub-item-in : tie.Need-sub-item-in
 sub-item-in c = search needs
@@ -46,8 +49,9 @@ item-row-at-spec =
     returns
     item-place-requires
     item-size-requires
-    add-end
+    places-requires
     returns-2
+    add-end
     sub-item-in
     part-item-in-start
     part-item-in-end

@@ -17,11 +17,14 @@ line-place-requires c κs = search needs
 line-size-requires : tie.Need-line-size-requires
 line-size-requires c κs = search needs
 
-add-end : tie.Need-add-end
-add-end c = search needs
+places-requires : tie.Need-places-requires
+places-requires c κs = search needs
 
 returns-2 : tie.Need-returns-2
 returns-2 c = search (row-out, line-lawful)
+
+add-end : tie.Need-add-end
+add-end c = search needs
 
 sub-line-in : tie.Need-sub-line-in
 sub-line-in c = search needs
@@ -46,8 +49,9 @@ line-at-spec =
     returns
     line-place-requires
     line-size-requires
-    add-end
+    places-requires
     returns-2
+    add-end
     sub-line-in
     part-line-in-start
     part-line-in-end

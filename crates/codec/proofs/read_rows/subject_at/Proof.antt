@@ -17,11 +17,14 @@ subject-place-requires c κs = search needs
 subject-size-requires : tie.Need-subject-size-requires
 subject-size-requires c κs = search needs
 
-add-end : tie.Need-add-end
-add-end c = search needs
+places-requires : tie.Need-places-requires
+places-requires c κs = search needs
 
 returns-2 : tie.Need-returns-2
 returns-2 c = search (row-out, subject-lawful)
+
+add-end : tie.Need-add-end
+add-end c = search needs
 
 sub-subject-in : tie.Need-sub-subject-in
 sub-subject-in c = search needs
@@ -46,8 +49,9 @@ subject-at-spec =
     returns
     subject-place-requires
     subject-size-requires
-    add-end
+    places-requires
     returns-2
+    add-end
     sub-subject-in
     part-subject-in-start
     part-subject-in-end

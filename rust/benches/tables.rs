@@ -1,0 +1,92 @@
+//! The proved library beside the twin, an independent implementation in Rust: how long the same
+//! calls take on the same images. `make bench` in the folder above runs it and builds what it needs.
+
+#[allow(dead_code)]
+#[path = "../tests/support/call.rs"]
+mod call;
+#[path = "tables/cases.rs"]
+mod cases;
+#[path = "tables/images.rs"]
+mod images;
+#[path = "tables/printing.rs"]
+mod printing;
+#[allow(dead_code)]
+#[path = "../tests/support/random.rs"]
+mod random;
+#[path = "tables/reports.rs"]
+mod reports;
+#[path = "../tests/support/sample.rs"]
+mod sample;
+#[allow(dead_code)]
+#[path = "../tests/support/tables.rs"]
+mod tables;
+#[path = "tables/timing.rs"]
+mod timing;
+#[path = "../tests/twin/mod.rs"]
+mod twin;
+
+use call::Call;
+use cases::{Case, Operation};
+use printing::Row;
+use std::io;
+
+fn main() -> io::Result<()> {
+    if reports::asked_for_twin_report() {
+        return reports::print_twin_report();
+    }
+    reports::stop_without_report_program();
+    let cases = cases::cases();
+    cases.iter().for_each(assert_accepted);
+    printing::print_what_is_measured(&cases);
+    printing::print_heading();
+    timing::warm_up(&cases[0].image);
+    let mut rows = Vec::new();
+    for case in &cases {
+        measure(case, &mut rows)?;
+    }
+    printing::print_summary(&rows);
+    Ok(())
+}
+
+/// Prints each row as soon as it is known.
+fn measure(case: &Case, rows: &mut Vec<Row>) -> io::Result<()> {
+    let mut add = |operation, times, search| {
+        let row = Row {
+            image: case.image_name,
+            operation,
+            times,
+            search,
+        };
+        printing::print_row(&row);
+        rows.push(row);
+    };
+    for operation in &case.operations {
+        assert_same_answer(case, operation);
+        let times = timing::time_call(&operation.call, &case.image);
+        add(operation.name, times, operation.search);
+    }
+    let times = reports::time_report(&case.image)?;
+    add("report", times, case.report_search);
+    Ok(())
+}
+
+fn assert_accepted(case: &Case) {
+    let name = case.image_name;
+    assert_eq!(dacm::check(&case.image), Ok(()), "the library on {name}");
+    assert_eq!(twin::check(&case.image).number, 0, "the twin on {name}");
+}
+
+/// Both sides answer the same and leave the same bytes. No call is refused, but for a search where
+/// there is no editor.
+fn assert_same_answer(case: &Case, operation: &Operation) {
+    let what = format!("{} on {}", operation.name, case.image_name);
+    let mut by_library = case.image.clone();
+    let mut by_twin = case.image.clone();
+    let answer = operation.call.on_library(&mut by_library);
+    assert_eq!(answer, operation.call.on_twin(&mut by_twin), "{what}");
+    assert!(by_library == by_twin, "different bytes after {what}");
+    let no_editor = 20;
+    let none_there =
+        matches!(operation.call, Call::FindEditor { .. }) && answer.number == no_editor;
+    assert!(answer.number == 0 || none_there, "{what} is refused");
+}

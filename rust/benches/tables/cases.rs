@@ -1,0 +1,229 @@
+//! What is measured: the images, and the calls on each.
+
+use crate::call::Call;
+use crate::images;
+use crate::sample::{sample, ITSELF};
+use crate::tables::Tables;
+
+const CUSTODIAN: u32 = 0;
+const NO_ROLE: u32 = 0;
+
+/// An image and the calls that are timed on it.
+pub struct Case {
+    pub image_name: &'static str,
+    pub image: Vec<u8>,
+    pub operations: Vec<Operation>,
+    /// As `search` of an operation.
+    pub report_search: Search,
+}
+
+/// A call, and what it does here.
+pub struct Operation {
+    pub name: &'static str,
+    pub call: Call,
+    pub search: Search,
+}
+
+/// How much of the library's time goes into its row-by-row search for one line. Set by hand.
+#[derive(Clone, Copy, PartialEq, Eq)]
+pub enum Search {
+    /// Little: no line is looked up, or only in a table of few.
+    Little,
+    /// What the call takes beyond the check of the whole image, with which every call begins.
+    BesideTheCheck,
+    /// Most of it: lines are looked up for every subject.
+    Most,
+}
+
+pub fn cases() -> Vec<Case> {
+    vec![
+        sample_case(),
+        mixed_case(),
+        chain_case(),
+        lines_case(),
+        most_lines_of_output_case(),
+    ]
+}
+
+fn sample_case() -> Case {
+    let tables = sample();
+    Case {
+        image_name: "sample",
+        image: tables.image(),
+        operations: vec![
+            plain("check", Call::Check),
+            plain("permission set, under a role", set_of(4, 7, 2)),
+            plain("editor search, there is none", editor_of(1)),
+            plain("set line, overwrites", overwriting(&tables)),
+            plain("set line, inserts", inserting(&tables)),
+            plain("remove line", removing(&tables)),
+        ],
+        report_search: Search::Little,
+    }
+}
+
+fn mixed_case() -> Case {
+    let tables = images::mixed();
+    let [receiver, role, ..] = middle(&tables.grants.rows);
+    let list = list_in_the_middle(&tables);
+    let item = item_under(&tables, list);
+    Case {
+        image_name: "mixed",
+        image: tables.image(),
+        operations: vec![
+            plain("check", Call::Check),
+            looking_up("permission set", set_of(500, NO_ROLE, item)),
+            looking_up("permission set, under a role", set_of(receiver, role, item)),
+            searching("editor search, the last subject", editor_of(list)),
+            looking_up("set line, overwrites", overwriting(&tables)),
+            looking_up("set line, inserts", inserting(&tables)),
+            looking_up("remove line", removing(&tables)),
+        ],
+        report_search: Search::Most,
+    }
+}
+
+/// The time goes into the way up. The lines are so few that each is soon found.
+fn chain_case() -> Case {
+    let tables = images::chain();
+    let deepest = tables.subjects.used() as u32 - 1;
+    Case {
+        image_name: "chain",
+        image: tables.image(),
+        operations: vec![
+            plain("check", Call::Check),
+            plain(
+                "permission set, half way down",
+                set_of(deepest / 2, NO_ROLE, 2),
+            ),
+            plain("permission set, the deepest", set_of(deepest, NO_ROLE, 2)),
+            plain("editor search, the last subject", editor_of(1)),
+            plain("set line, overwrites", overwriting(&tables)),
+            plain("set line, inserts", inserting(&tables)),
+            plain("remove line", removing(&tables)),
+        ],
+        report_search: Search::Little,
+    }
+}
+
+fn lines_case() -> Case {
+    let tables = images::lines();
+    let list = list_in_the_middle(&tables);
+    let item = item_under(&tables, list);
+    Case {
+        image_name: "lines",
+        image: tables.image(),
+        operations: vec![
+            plain("check", Call::Check),
+            looking_up("permission set", set_of(150, NO_ROLE, item)),
+            searching("editor search, there is none", editor_of(list)),
+            looking_up("set line, overwrites", overwriting(&tables)),
+            looking_up("set line, inserts", inserting(&tables)),
+            looking_up("remove line", removing(&tables)),
+        ],
+        report_search: Search::Most,
+    }
+}
+
+/// Only for its report.
+fn most_lines_of_output_case() -> Case {
+    Case {
+        image_name: "most lines of output",
+        image: images::most_lines_of_output().image(),
+        operations: Vec::new(),
+        report_search: Search::Little,
+    }
+}
+
+fn plain(name: &'static str, call: Call) -> Operation {
+    let search = Search::Little;
+    Operation { name, call, search }
+}
+
+/// A call that looks up a few lines in a table of many.
+fn looking_up(name: &'static str, call: Call) -> Operation {
+    let search = Search::BesideTheCheck;
+    Operation { name, call, search }
+}
+
+/// A call that looks up lines for every subject, in a table of many.
+fn searching(name: &'static str, call: Call) -> Operation {
+    let search = Search::Most;
+    Operation { name, call, search }
+}
+
+fn set_of(subject: u32, role: u32, item: u32) -> Call {
+    Call::PermissionSet {
+        subject,
+        role,
+        item,
+    }
+}
+
+fn editor_of(list: u32) -> Call {
+    Call::FindEditor { list }
+}
+
+/// Sets the line in the middle of the table.
+fn overwriting(tables: &Tables) -> Call {
+    let [list, kind, subject, _] = middle(&tables.lines.rows);
+    Call::SetLine {
+        caller: CUSTODIAN,
+        role: NO_ROLE,
+        list,
+        kind,
+        subject,
+        privileges: 5,
+    }
+}
+
+/// Gives a line to a subject that has none of its own yet, on the list in the middle of the table.
+fn inserting(tables: &Tables) -> Call {
+    let list = list_in_the_middle(tables);
+    let subject = (1..)
+        .find(|&subject| !has_own_line(tables, list, subject))
+        .expect("no list has an own line for every subject");
+    Call::SetLine {
+        caller: CUSTODIAN,
+        role: NO_ROLE,
+        list,
+        kind: ITSELF,
+        subject,
+        privileges: 5,
+    }
+}
+
+/// Removes the line in the middle of the table.
+fn removing(tables: &Tables) -> Call {
+    let [list, kind, subject, _] = middle(&tables.lines.rows);
+    Call::RemoveLine {
+        caller: CUSTODIAN,
+        role: NO_ROLE,
+        list,
+        kind,
+        subject,
+    }
+}
+
+fn middle<const FIELDS: usize>(rows: &[[u32; FIELDS]]) -> [u32; FIELDS] {
+    rows[rows.len() / 2]
+}
+
+fn list_in_the_middle(tables: &Tables) -> u32 {
+    let [list, ..] = middle(&tables.lines.rows);
+    list
+}
+
+/// The first item that is governed by this list and is not a list.
+fn item_under(tables: &Tables, list: u32) -> u32 {
+    (1..)
+        .zip(&tables.items.rows)
+        .find(|(_, [_, governing, flags])| *governing == list && *flags == 0)
+        .map(|(number, _)| number)
+        .expect("every list governs an item")
+}
+
+fn has_own_line(tables: &Tables, list: u32, subject: u32) -> bool {
+    let own = |line: &[u32; 4]| line[..3] == [list, ITSELF, subject];
+    tables.lines.rows.iter().any(own)
+}

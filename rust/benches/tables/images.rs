@@ -1,0 +1,192 @@
+//! The images that are measured. The random ones start from fixed seeds, so every run has the same.
+
+use crate::random::Random;
+use crate::sample::{EVERYONE, GROUP, ITSELF, OWNER};
+use crate::tables::{Table, Tables};
+use dacm::privileges::{ALL, ANNOTATE, DISCARD, EDIT_LIST, READ, REPLACE};
+use std::collections::{BTreeMap, BTreeSet};
+
+const LONGEST: usize = 65_536;
+const ITEM_BYTES: usize = 12;
+
+/// Spare rows of a table, so that a row can be added.
+const SPARE: usize = 2;
+
+const IS_LIST: u32 = 1;
+const CUSTODIAN: [u32; 3] = [0, ALL, 0];
+
+/// What random lines give at most. Nobody may edit a list by it, so that the search for an editor
+/// goes through all subjects.
+const DAILY_WORK: u32 = READ | REPLACE | DISCARD | ANNOTATE;
+
+/// Exactly 65,536 bytes of everything: 1,000 subjects in a random tree, 600 grants, 1,000 lines on
+/// 40 lists, and items under these lists in the rest. The last subject alone may edit the lists.
+pub fn mixed() -> Tables {
+    let random = &mut Random::new(1);
+    let subjects = with_spare(random_tree(random, 1_000));
+    let grants = with_spare(random_grants(random, 600, &subjects.rows));
+    let lists = 40;
+    let shape = ListShape {
+        own: 11,
+        own_below: 999,
+        groups: 11,
+        groups_below: 40,
+        editor: Some(999),
+    };
+    let lines = (1..=lists).flat_map(|list| shape.lines(random, list));
+    let mut tables = Tables {
+        subjects,
+        grants,
+        lines: with_spare(lines.collect()),
+        items: with_spare(Vec::new()),
+    };
+    let room = (LONGEST - tables.image().len()) / ITEM_BYTES;
+    tables.items.rows = random_items(random, room, lists, 1_000);
+    assert_eq!(tables.image().len(), LONGEST, "bytes of the mixed image");
+    tables
+}
+
+/// Every subject below the one before, as many as fit, and a list whose group line the search comes
+/// to only near the top. The deepest subject owns the list, and it alone may edit it.
+pub fn chain() -> Tables {
+    let deepest = 5_437;
+    let below = (0..deepest).map(|parent| [parent, 127, parent]);
+    let lines = vec![
+        [1, ITSELF, 2, DAILY_WORK],
+        [1, GROUP, 1, READ | REPLACE],
+        [1, OWNER, 0, EDIT_LIST],
+        [1, EVERYONE, 0, READ],
+    ];
+    Tables {
+        subjects: with_spare([CUSTODIAN].into_iter().chain(below).collect()),
+        grants: with_spare(vec![[1, 7, 1, deepest, DAILY_WORK]]),
+        lines: with_spare(lines),
+        items: with_spare(vec![[deepest, 1, IS_LIST], [1, 1, 0], [2, 1, 0]]),
+    }
+}
+
+/// 3,000 lines on 10 lists, with 300 subjects and 100 items. Nobody but the custodian may edit the
+/// lists.
+pub fn lines() -> Tables {
+    let random = &mut Random::new(2);
+    let subjects = with_spare(random_tree(random, 300));
+    let grants = with_spare(random_grants(random, 100, &subjects.rows));
+    let lists = 10;
+    let shape = ListShape {
+        own: 149,
+        own_below: 300,
+        groups: 149,
+        groups_below: 300,
+        editor: None,
+    };
+    let lines = (1..=lists).flat_map(|list| shape.lines(random, list));
+    Tables {
+        subjects,
+        grants,
+        lines: with_spare(lines.collect()),
+        items: with_spare(random_items(random, 100, lists, 300)),
+    }
+}
+
+/// As many pairs of a subject and an item as fit, which is the longest report: 7,447,441 lines. No
+/// lists and a flat tree, so that the time goes into the printing.
+pub fn most_lines_of_output() -> Tables {
+    let mut subjects = vec![[0, 127, 0]; 2_729];
+    subjects[0] = CUSTODIAN;
+    let items = (0..2_729).map(|owner| [owner, 0, 0]).collect();
+    Tables {
+        subjects: full(subjects),
+        items: full(items),
+        ..Tables::default()
+    }
+}
+
+fn with_spare<const FIELDS: usize>(rows: Vec<[u32; FIELDS]>) -> Table<FIELDS> {
+    Table { rows, spare: SPARE }
+}
+
+fn full<const FIELDS: usize>(rows: Vec<[u32; FIELDS]>) -> Table<FIELDS> {
+    Table { rows, spare: 0 }
+}
+
+/// Subjects of which each is right below any earlier one. Half were defined by the custodian and
+/// half by their parents, and hold some of what these hold. The last one holds all, to be an editor.
+fn random_tree(random: &mut Random, count: usize) -> Vec<[u32; 3]> {
+    let mut rows = vec![CUSTODIAN];
+    for number in 1..count {
+        let parent = random.below(number);
+        let creator = if random.one_in(2) { 0 } else { parent };
+        let [_, most, _] = rows[creator];
+        let privileges = (READ | random.number()) & most;
+        rows.push([parent as u32, privileges, creator as u32]);
+    }
+    let [_, privileges, creator] = rows.last_mut().expect("the custodian is there");
+    (*privileges, *creator) = (ALL, 0);
+    rows
+}
+
+/// Grants of a few roles, each by the parent of its domain.
+fn random_grants(random: &mut Random, count: usize, subjects: &[[u32; 3]]) -> Vec<[u32; 5]> {
+    let mut grants = BTreeMap::new();
+    while grants.len() < count {
+        let receiver = random.below(subjects.len()) as u32;
+        let role = random.pick(&[1, 2, 7]);
+        let domain = random.below(subjects.len());
+        let [grantor, _, _] = subjects[domain];
+        grants.insert((receiver, role), (grantor, domain as u32, random.number()));
+    }
+    let row = |((receiver, role), (grantor, domain, privileges))| {
+        [receiver, role, grantor, domain, privileges]
+    };
+    grants.into_iter().map(row).collect()
+}
+
+/// How many own and group lines a list has, and below which numbers their subjects are. There is
+/// one more for the owner, for everyone, and for the editor if there is to be one.
+struct ListShape {
+    own: usize,
+    own_below: usize,
+    groups: usize,
+    groups_below: usize,
+    editor: Option<u32>,
+}
+
+impl ListShape {
+    fn lines(&self, random: &mut Random, list: u32) -> Vec<[u32; 4]> {
+        let own = distinct(random, self.own, self.own_below).map(|subject| (ITSELF, subject));
+        let groups = distinct(random, self.groups, self.groups_below).map(|head| (GROUP, head));
+        let whom = own.chain(groups).chain([(OWNER, 0), (EVERYONE, 0)]);
+        let line = |(kind, subject)| [list, kind, subject, random.number() & DAILY_WORK];
+        let mut lines: Vec<[u32; 4]> = whom.map(line).collect();
+        lines.extend(self.editor.map(|editor| [list, ITSELF, editor, EDIT_LIST]));
+        lines.sort_unstable();
+        lines
+    }
+}
+
+/// So many different numbers below the bound.
+fn distinct(random: &mut Random, count: usize, bound: usize) -> impl Iterator<Item = u32> {
+    let mut numbers = BTreeSet::new();
+    while numbers.len() < count {
+        numbers.insert(random.below(bound) as u32);
+    }
+    numbers.into_iter()
+}
+
+/// Items of which the first are the lists, and the others are governed by any of these.
+fn random_items(random: &mut Random, count: usize, lists: u32, subjects: usize) -> Vec<[u32; 3]> {
+    let mut item = |number| {
+        let owner = random.below(subjects) as u32;
+        if number <= lists {
+            [owner, list_of_list(number), IS_LIST]
+        } else {
+            [owner, 1 + random.below(lists as usize) as u32, 0]
+        }
+    };
+    (1..=count as u32).map(&mut item).collect()
+}
+
+/// Lists 1, 3, 5 and so on are their own, and each governs the one behind it as well.
+fn list_of_list(list: u32) -> u32 {
+    list - (list + 1) % 2
+}

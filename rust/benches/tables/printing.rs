@@ -1,0 +1,117 @@
+//! The table in Markdown, and what is said before and after it.
+
+use crate::cases::{Case, Search};
+use crate::reports::{FEWEST_RUNS, MOST_RUNS};
+use crate::tables::Tables;
+use crate::timing::{Times, FEWEST_BATCHES, MOST_BATCHES};
+
+/// What was measured on an image.
+pub struct Row {
+    pub image: &'static str,
+    pub operation: &'static str,
+    pub times: Times,
+    pub search: Search,
+}
+
+pub fn print_what_is_measured(cases: &[Case]) {
+    println!("Proved library and twin, both built for release, images warm in cache, in turns.");
+    println!("Calls: best of {MOST_BATCHES} batches, of at least {FEWEST_BATCHES} where slow.");
+    println!("Reports: best of {MOST_RUNS} whole processes, of at least {FEWEST_RUNS} where slow.");
+    println!(
+        "Search: the library's time goes into its row-by-row search for one line; check, search:"
+    );
+    println!("what the call takes beyond the check of the image does.");
+    println!();
+    print_sizes(["image", "bytes", "subjects", "grants", "lines", "items"]);
+    println!("|:--|--:|--:|--:|--:|--:|");
+    for case in cases {
+        print_sizes(sizes(case).each_ref().map(String::as_str));
+    }
+    println!();
+}
+
+fn sizes(case: &Case) -> [String; 6] {
+    let tables = Tables::read(&case.image);
+    [
+        case.image_name.to_string(),
+        case.image.len().to_string(),
+        tables.subjects.used().to_string(),
+        tables.grants.used().to_string(),
+        tables.lines.used().to_string(),
+        tables.items.used().to_string(),
+    ]
+}
+
+fn print_sizes([image, bytes, subjects, grants, lines, items]: [&str; 6]) {
+    println!("| {image:20} | {bytes:>6} | {subjects:>8} | {grants:>6} | {lines:>5} | {items:>5} |");
+}
+
+pub fn print_heading() {
+    print_times([
+        "image",
+        "operation",
+        "library",
+        "twin",
+        "ratio",
+        "decided by",
+    ]);
+    println!("|:--|:--|--:|--:|--:|:--|");
+}
+
+pub fn print_row(row: &Row) {
+    print_times([
+        row.image,
+        row.operation,
+        &with_unit(row.times.library),
+        &with_unit(row.times.twin),
+        &format!("{:.2}", row.times.ratio()),
+        match row.search {
+            Search::Little => "",
+            Search::BesideTheCheck => "check, search",
+            Search::Most => "search",
+        },
+    ]);
+}
+
+fn print_times([image, operation, library, twin, ratio, decided]: [&str; 6]) {
+    println!(
+        "| {image:20} | {operation:31} | {library:>7} | {twin:>7} | {ratio:>6} | {decided:13} |"
+    );
+}
+
+/// The largest ratios, by what decides the rows.
+pub fn print_summary(rows: &[Row]) {
+    println!();
+    print_largest("without search", Search::Little, rows);
+    print_largest("with check and search", Search::BesideTheCheck, rows);
+    print_largest("with search", Search::Most, rows);
+}
+
+fn print_largest(which: &str, search: Search, rows: &[Row]) {
+    let row = rows
+        .iter()
+        .filter(|row| row.search == search)
+        .max_by(|one, other| one.times.ratio().total_cmp(&other.times.ratio()))
+        .expect("there are rows of each kind");
+    let ratio = row.times.ratio();
+    println!(
+        "Largest ratio {which}: {ratio:.2} ({}: {}).",
+        row.image, row.operation
+    );
+}
+
+/// Three digits, and the unit that suits them.
+fn with_unit(seconds: f64) -> String {
+    let (number, unit) = match seconds {
+        1.0.. => (seconds, "s"),
+        1e-3.. => (seconds * 1e3, "ms"),
+        1e-6.. => (seconds * 1e6, "µs"),
+        _ => (seconds * 1e9, "ns"),
+    };
+    let decimals = match number {
+        100.0.. => 0,
+        10.0.. => 1,
+        _ => 2,
+    };
+    format!("{number:.decimals$} {unit}")
+}
