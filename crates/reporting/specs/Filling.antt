@@ -11,7 +11,7 @@ use Rattle.model.specs.declared.Layout.{Layout}
 use Rattle.model.specs.Image.{Tables, tablesBy, widthOf, subjectFormat, itemFormat}
 use Rattle.model.specs.Permission.{permissionSet}
 use Rattle.laws.specs.Rows.{rows-count}
-use Rattle.reporting.specs.Report.{space, newline, endedBy, setLine, heading, refusedWord, refusedLine}
+use Rattle.reporting.specs.Report.{space, newline, endedBy, reportLine, heading, refusedWord, refusedLine}
 use Rattle.reporting.specs.Pages.{firstLine, lineCount, lineAt, linesFrom, pageLines, pageSize, page, endingIn}
 use Rattle.reporting.specs.Texts.{Put, put-none, put-more}
 
@@ -20,8 +20,8 @@ pub numbers-put : (p : List ℕ) (end s i v : ℕ) (q₁ : List ℕ) (r₁ : ℕ
     → Put p end (endedBy newline v) q₁ r₁
     → Put q₁ r₁ (endedBy space i) q₂ r₂
     → Put q₂ r₂ (endedBy space s) q₃ r₃
-    → Put p end (setLine s i v) q₃ r₃
-unfolding setLine
+    → Put p end (reportLine s i v) q₃ r₃
+unfolding reportLine
 numbers-put p end s i v q₁ r₁ q₂ r₂ q₃ r₃ a b c =
     put-more p end _ q₂ r₂ (endedBy space s) q₃ r₃ (put-more p end (endedBy newline v) q₁ r₁ (endedBy space i) q₂ r₂ a b) c
 
@@ -51,7 +51,7 @@ module _ (lay : Layout) (img : List ℕ) where
 
     pub line-put : (p : List ℕ) (end v : ℕ) (q : List ℕ) (r : ℕ)
         → v ≡ permissionSet (tablesBy lay img) (n / lay .items .used) 0 (n % lay .items .used + 1)
-        → Put p end (setLine (n / lay .items .used) (n % lay .items .used + 1) v) q r
+        → Put p end (reportLine (n / lay .items .used) (n % lay .items .used + 1) v) q r
         → Put p end (lineAt (tablesBy lay img) n) q r
     unfolding lineAt
     line-put p end v q r is a = rw (items-count, ← is) a

@@ -6,7 +6,7 @@ use lib.Dec.{eqb}
 use lib.ListN.{length, take, drop}
 use Rattle.model.specs.Image.{Tables}
 use Rattle.model.specs.Permission.{permissionSet}
-use Rattle.reporting.specs.Report.{setLine, heading, refusedLine}
+use Rattle.reporting.specs.Report.{reportLine, heading, refusedLine}
 
 -- the first line, by what the check said
 unfoldable pub firstLine : ℕ → List ℕ
@@ -18,7 +18,7 @@ lineCount t = length (t .subjects) * length (t .items)
 
 -- Line k: of each subject as many lines as there are items.
 unfoldable pub lineAt : Tables → ℕ → List ℕ
-lineAt t k = setLine (k / length (t .items)) (k % length (t .items) + 1) (permissionSet t (k / length (t .items)) 0 (k % length (t .items) + 1))
+lineAt t k = reportLine (k / length (t .items)) (k % length (t .items) + 1) (permissionSet t (k / length (t .items)) 0 (k % length (t .items) + 1))
 
 -- n lines from line k on
 unfoldable pub linesFrom : Tables → ℕ → ℕ → List ℕ

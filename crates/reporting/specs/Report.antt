@@ -34,13 +34,13 @@ abbrev pub endedBy : ℕ → ℕ → List ℕ
 endedBy b n = decimal n ++ b ∷ []
 
 -- a line: subject, item and set, one space between
-unfoldable pub setLine : ℕ → ℕ → ℕ → List ℕ
-setLine s i p = endedBy space s ++ (endedBy space i ++ endedBy newline p)
+unfoldable pub reportLine : ℕ → ℕ → ℕ → List ℕ
+reportLine s i p = endedBy space s ++ (endedBy space i ++ endedBy newline p)
 
 -- a subject's set under role 0 on each of n items from item i on
 unfoldable pub itemLines : Tables → ℕ → ℕ → ℕ → List ℕ
 itemLines t s i zero = []
-itemLines t s i (suc n) = setLine s i (permissionSet t s 0 i) ++ itemLines t s (suc i) n
+itemLines t s i (suc n) = reportLine s i (permissionSet t s 0 i) ++ itemLines t s (suc i) n
 
 -- on all items, of each of n subjects from subject s on
 unfoldable pub subjectLines : Tables → ℕ → ℕ → List ℕ

@@ -11,7 +11,7 @@ use lib.ListN.{length}
 use Rattle.model.specs.Image.{Tables, tables}
 use Rattle.model.specs.Permission.{permissionSet}
 use Rattle.model.specs.Questions.{check}
-use Rattle.reporting.specs.Report.{setLine, itemLines, subjectLines, report}
+use Rattle.reporting.specs.Report.{reportLine, itemLines, subjectLines, report}
 use Rattle.reporting.specs.Pages.{firstLine, lineCount, lineAt, linesFrom, pageLines, page, pagesFrom}
 use Rattle.reporting.specs.Filling.{page-of}
 
@@ -27,7 +27,7 @@ module _ (t : Tables) where
   items = length (t .items)
 
   -- line j of subject s
-  line-is : (s j : ℕ) → j < items → lineAt t (j + items * s) ≡ setLine s (suc j) (permissionSet t s 0 (suc j))
+  line-is : (s j : ℕ) → j < items → lineAt t (j + items * s) ≡ reportLine s (suc j) (permissionSet t s 0 (suc j))
   unfolding lineAt
   line-is s j h =
       let some : 0 < items = omega arith in
@@ -40,7 +40,7 @@ module _ (t : Tables) where
   item-lines zero s j h = refl
   item-lines (suc n) s j h =
       let next : suc (j + items * s) ≡ suc j + items * s = omega arith in
-      rw (line-is s j (omega arith), next) (ap (λ (l : List ℕ). setLine s (suc j) (permissionSet t s 0 (suc j)) ++ l) (item-lines n s (suc j) (omega arith)))
+      rw (line-is s j (omega arith), next) (ap (λ (l : List ℕ). reportLine s (suc j) (permissionSet t s 0 (suc j)) ++ l) (item-lines n s (suc j) (omega arith)))
 
   subject-lines : (n s : ℕ) → linesFrom t (items * s) (n * items) ≡ subjectLines t s n
   unfolding linesFrom subjectLines

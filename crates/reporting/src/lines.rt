@@ -3,7 +3,7 @@ ghost use mathlib.Core.Path.{_≡_};
 ghost use Prim.Native.Nat.{_+_, _^_, _<_, _≤_};
 ghost use lib.ListN.{length};
 ghost use Rattle.model.specs.Image.{tablesBy};
-ghost use Rattle.reporting.specs.Report.{setLine};
+ghost use Rattle.reporting.specs.Report.{reportLine};
 ghost use Rattle.reporting.specs.Pages.{lineCount, lineAt, linesFrom, pageSize, pageLines};
 ghost use Rattle.reporting.specs.Texts.{Put};
 use super::PAGE;
@@ -47,7 +47,7 @@ fn put_line(image: &[u8], layout: Layout, number: u64, page: &mut [u8], end: usi
 
 fn put_set(page: &mut [u8], end: usize, subject: u32, item: u32, set: Privileges) -> usize
     requires { ⌜ (63 ≤ end) × (end ≤ length (now page)) ⌝ }
-    ensures { λ r. ⌜ Put (now (page .entry)) end (setLine subject item set) (now (page .exit)) r ⌝ }
+    ensures { λ r. ⌜ Put (now (page .entry)) end (reportLine subject item set) (now (page .exit)) r ⌝ }
     ensures { λ r. ⌜ end ≤ r + 63 ⌝ }
 {
     let item_end = put_number(page, end, set as u64, b'\n');
