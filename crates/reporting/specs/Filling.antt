@@ -1,6 +1,6 @@
 -- Lines put into a page: a line from its numbers, and line in front of line.
-use mathlib.Core.List.{List, [], _∷_, _++_, append-nil}
-use mathlib.Core.Path.{_≡_, refl, sym, ap, _∙_}
+use mathlib.Core.List.{List, [], _++_, append-nil}
+use mathlib.Core.Path.{_≡_, refl, ap, _∙_}
 use Prim.Native.Nat.{ℕ, zero, suc, _+_, _-_, _*_, _/_, _%_, _^_, _<_, _≤_, min}
 use native.Mathlib.Nat.{div-lt-iff-lt-mul, mul-zero, mul-le-mul-left}
 use native.Mathlib.Omega.{arith}

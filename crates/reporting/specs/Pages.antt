@@ -1,9 +1,9 @@
 -- The report as the code writes it: its first line, and its other lines by their number, so many to a page. `Whole` shows that these are the report.
 use mathlib.Core.Bool.{cond}
-use mathlib.Core.List.{List, [], _∷_, _++_}
+use mathlib.Core.List.{List, [], _++_}
 use Prim.Native.Nat.{ℕ, zero, suc, _+_, _-_, _*_, _/_, _%_, min}
 use lib.Dec.{eqb}
-use lib.ListN.{length, take, drop}
+use lib.ListN.{length, take}
 use Rattle.model.specs.Image.{Tables}
 use Rattle.model.specs.Permission.{permissionSet}
 use Rattle.reporting.specs.Report.{reportLine, heading, refusedLine}

@@ -1,5 +1,5 @@
 -- `report::print_lines` meets its contract: each turn is a page nearer to the count.
-use Prim.Native.Nat.{_-_, _≤_}
+use Prim.Native.Nat.{_-_}
 use native.Mathlib.Omega.{arith}
 use borrow.Author.Needs.{needs}
 use Rattle.report.proofs.print_lines.Statement.{statement}

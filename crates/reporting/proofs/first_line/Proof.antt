@@ -1,6 +1,5 @@
 -- `reporting::first_line` meets its contract: the heading, or the word in front of the number.
 use borrow.Author.Needs.{needs}
-use native.Mathlib.Omega.{arith}
 use Rattle.reporting.specs.Filling.{ends-at, ends-in, first-heading, first-refused, refusal-put}
 use Rattle.reporting.proofs.first_line.Statement.{statement}
 use Rattle.reporting.proofs.first_line.Tie as tie

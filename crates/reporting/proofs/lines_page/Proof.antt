@@ -1,6 +1,5 @@
 -- `reporting::lines_page` meets its contract: no line, those that are left, or as many as a page holds.
 use borrow.Author.Needs.{needs}
-use native.Mathlib.Omega.{arith}
 use Rattle.reporting.specs.Filling.{ends-at, ends-in, none-at, none-in, page-none, page-rest, page-full}
 use Rattle.reporting.proofs.lines_page.Statement.{statement}
 use Rattle.reporting.proofs.lines_page.Tie as tie

@@ -1,8 +1,6 @@
 -- `reporting::text::put_decimal` meets its contract: the last digit, and then each turn the digit in front of those that are there.
-use Prim.Native.Nat.{_≤_}
 use native.Mathlib.Omega.{arith}
 use borrow.Author.Needs.{needs}
-use lib.ListN.{length}
 use Rattle.reporting.specs.Texts.{Spelt, spelt-none, spelt-room, spelt-one, number-put, number-short}
 use Rattle.reporting.proofs.text.put_decimal.Statement.{statement}
 use Rattle.reporting.proofs.text.put_decimal.Tie as tie
