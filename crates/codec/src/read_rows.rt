@@ -1,9 +1,10 @@
 // Rows read from their tables, by number. A row that is not in use, or that runs past the end, reads as the row of zeros. A row's bytes are taken as one part, so that it is
 // asked once whether they are there.
 ghost use mathlib.Core.Path.{_≡_};
-ghost use lib.ListN.{getD};
+ghost use lib.ListN.{length, getD};
 ghost use Rattle.model.specs.Image.{rowsIn, itemIn, widthOf, subjectFormat, noSubject, grantFormat, noGrant, lineFormat, noLine, itemFormat, noItem};
 ghost use Rattle.codec.specs.RowLaws.{rowOf};
+ghost use Rattle.codec.specs.Inside.{inside};
 use edits::places;
 use fields::field;
 use model::GrantRow;
@@ -42,7 +43,8 @@ pub fn subject_at(bytes: &[u8], layout: Layout, n: u32) -> SubjectRow
     subject_in(&bytes[at..end], layout)
 }
 
-fn subject_in(row: &[u8], layout: Layout) -> SubjectRow
+// The row of the fields that some bytes begin with.
+pub fn subject_in(row: &[u8], layout: Layout) -> SubjectRow
     ensures { λ r. ⌜ r ≡ rowOf (subjectFormat (widthOf layout)) (now (row .entry)) ⌝ }
 {
     let at_creator = 4 + privileges_size(layout);
@@ -51,6 +53,21 @@ fn subject_in(row: &[u8], layout: Layout) -> SubjectRow
         privileges_at(row, layout, 4),
         Subject(field(row, at_creator)),
     )
+}
+
+// How many of the subjects in use have their row wholly inside the bytes, for a pass or a climb that then reads such rows without a test. The rows of the others are zeros.
+pub fn subjects_inside(bytes: &[u8], layout: Layout) -> u32
+    ensures { λ r. ⌜ r ≡ inside (subjectFormat (widthOf layout)) (layout .subjects) (length (now (bytes .entry))) ⌝ }
+{
+    let table = layout.subjects;
+    if subject_place(layout, table.used) <= bytes.len() {
+        return table.used;
+    }
+    let start = table.start as usize;
+    if bytes.len() <= start {
+        return 0;
+    }
+    ((bytes.len() - start) / subject_size(layout)) as u32
 }
 
 pub fn grant_at(bytes: &[u8], layout: Layout, n: u32) -> GrantRow

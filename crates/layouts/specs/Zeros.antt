@@ -17,7 +17,7 @@ use Rattle.model.specs.Lists.{zeros}
 or-empty : (a b : ℕ) → eqb (bitOr a b) 0 ≡ (eqb a 0 && eqb b 0)
 or-empty a b =
     ⊎-elim
-    (λ (none : a ≡ 0). rw (none, or-zero-l))
+    (λ (none : a ≡ 0). rw (none, or-zero-l b))
     (λ (some : 0 < a).
     let more : 0 < bitOr a b = omega (arith, or-add-and a b, and-le-r a b) in
     rw (ne-eqb a 0 (λ z. omega arith), ne-eqb (bitOr a b) 0 (λ z. omega arith)))

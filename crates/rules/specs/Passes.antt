@@ -2,18 +2,19 @@
 use mathlib.Core.Bool.{Bool, true, false, not, _&&_, and-false}
 use mathlib.Core.List.{List, [], _∷_}
 use mathlib.Core.Logic.{inl, inr}
-use mathlib.Core.Path.{_≡_, refl, sym, _∙_}
+use mathlib.Core.Path.{_≡_, refl, sym, ap, _∙_}
 use Prim.Native.Nat.{ℕ, suc, _+_, _<_, _≤_}
 use native.Mathlib.Omega.{arith}
-use borrow.Author.Tests.{not-true, not-false}
-use lib.Dec.{T}
-use lib.ListN.{length, getD, drop, drop-of-length-le}
+use borrow.Author.Tests.{not-true, not-false, eq-eqb, ne-eqb}
+use lib.Dec.{T, eqb}
+use lib.ListN.{length, getD, drop, replicate, drop-of-length-le}
 use Rattle.model.specs.declared.Table.{Table}
 use Rattle.model.specs.Lists.{every, everyNumbered}
 use Rattle.model.specs.Sorted.{before, ascending}
 use Rattle.model.specs.Image.{Format, rowsIn}
-use Rattle.laws.specs.Rows.{rows-count, rows-next}
-use Rattle.laws.specs.Tests.{T-true, true-T, two, lt-eq-gt, every-at, every-by}
+use Rattle.laws.specs.Rows.{Lawful, rows-count, rows-next}
+use Rattle.laws.specs.Tests.{T-true, true-T, two, eq-or-ne, lt-eq-gt, every-at, every-by}
+use Rattle.codec.specs.Inside.{inside, outside-row}
 
 -- Rows with a test that sees their number.
 module _ {A : Type 0} (f : Format A) (t : Table) (img : List ℕ) (d : A) (test : ℕ → A → Bool) where
@@ -61,6 +62,34 @@ module _ {A : Type 0} (f : Format A) (t : Table) (img : List ℕ) (d : A) (test 
       sym
       (T-true (everyNumbered test (rowsIn f t img))
       (every-by test (rowsIn f t img) d (λ k l. u .passed k (omega (arith, rows-count f t img)))))
+
+  -- A pass through the rows that lie inside the image; the others are rows of zeros. m is how many lie inside.
+  module _ (law : Lawful f) (none : d ≡ f .row (replicate (length (f .widths)) 0)) (m : ℕ) (count : m ≡ inside f t (length img)) (n : ℕ) (all : m ≤ n) where
+    zeros-from : (k : ℕ) → n ≤ k → d ≡ getD (rowsIn f t img) k d
+    zeros-from k h = outside-row f law t img k d none (omega arith)
+
+    pub upto-inside : Upto n → ((k : ℕ) → n ≤ k → T (test k d)) → true ≡ everyNumbered test (rowsIn f t img)
+    upto-inside u held =
+        sym
+        (T-true (everyNumbered test (rowsIn f t img))
+        (every-by test (rowsIn f t img) d
+        (λ k l.
+        elim (lt-eq-gt k n) [
+          | inl low ↦ u .passed k low
+          | inr (inl here) ↦ rw (← zeros-from k (omega arith)) (held k (omega arith))
+          | inr (inr high) ↦ rw (← zeros-from k (omega arith)) (held k (omega arith))
+        ])))
+
+    -- with no row inside, the first row of zeros breaks its rules, unless there is none
+    pub none-inside : n ≤ 0 → test 0 d ≡ false → (b : Bool) → b ≡ eqb (t .used) 0 → b ≡ everyNumbered test (rowsIn f t img)
+    none-inside first broken b e =
+        elim (eq-or-ne (t .used) 0) [
+          | inl empty ↦ e ∙ rw (eq-eqb (t .used) 0 empty) (upto-all 0 upto-none (omega arith))
+          | inr some ↦
+              e
+              ∙ rw (ne-eqb (t .used) 0 some)
+              (upto-broken 0 false (omega (arith, some)) (sym broken ∙ ap (test 0) (zeros-from 0 first)) refl)
+        ]
 
 -- Rows that each pass a test and ascend by a key.
 module _ {A : Type 0} (f : Format A) (t : Table) (img : List ℕ) (d : A) (rules : A → Bool) (key : A → List ℕ) where

@@ -2,11 +2,12 @@
 use mathlib.Core.Bool.{Bool, true, false, not, and-false, false≢true}
 use mathlib.Core.List.{List, [], _∷_}
 use mathlib.Core.Logic.{inl, inr}
-use mathlib.Core.Path.{_≡_, refl, _∙_}
-use Prim.Native.Nat.{ℕ, zero, suc, _+_}
+use mathlib.Core.Path.{_≡_, refl, ap, _∙_}
+use Prim.Native.Nat.{ℕ, zero, suc, _+_, _<_, _≤_}
 use native.Mathlib.Omega.{arith}
 use borrow.Author.Tests.{lt-ltb, eq-eqb, ne-eqb}
-use lib.Dec.{eqb, ltb}
+use lib.Bits.{and-zero-l}
+use lib.Dec.{T, eqb, ltb}
 use lib.ListN.{getD}
 use Rattle.model.specs.declared.SubjectRow.{SubjectRow}
 use Rattle.model.specs.declared.GrantRow.{GrantRow}
@@ -15,10 +16,25 @@ use Rattle.model.specs.declared.ItemRow.{ItemRow}
 use Rattle.model.specs.Lists.{allOf}
 use Rattle.model.specs.Sorted.{before}
 use Rattle.model.specs.WhoAndWhat.{everything, within}
-use Rattle.model.specs.Image.{subjectIn, privilegesIn, itemIn, noItem, noLine, noGrant, lineKey, grantKey, subjectRules, itemRules, lineRules, grantRules}
-use Rattle.laws.specs.Tests.{eq-or-ne}
+use Rattle.model.specs.Image.{subjectIn, privilegesIn, noSubject, itemIn, noItem, noLine, noGrant, lineKey, grantKey, subjectRules, itemRules, lineRules, grantRules}
+use Rattle.laws.specs.Tests.{eq-or-ne, and-i, true-T}
 
 -- Subjects.
+
+-- a set held against the creator's row
+pub creator-within : (rows : List SubjectRow) (y : SubjectRow) (s a : ℕ) (b : Bool) → y ≡ subjectIn rows s → b ≡ within a (y .privileges) → b ≡ within a (privilegesIn rows s)
+creator-within rows y s a b e r = r ∙ ap (λ (x : SubjectRow). within a (x .privileges)) e
+
+none-within : (p : ℕ) → within 0 p ≡ true
+none-within p = ap (λ (x : ℕ). eqb x 0) (and-zero-l p)
+
+-- rows of zeros hold the rules, but for the custodian's
+pub zeros-hold : (w : ℕ) (rows : List SubjectRow) (n : ℕ) → 0 < n → (k : ℕ) → n ≤ k → T (subjectRules w rows k noSubject)
+zeros-hold w rows n some zero h = absurd (omega arith)
+zeros-hold w rows n some (suc k) h =
+    let low : T (ltb 0 (suc k)) = true-T (ltb 0 (suc k)) (lt-ltb 0 (suc k) (omega arith)) in
+    let held : T (within 0 (privilegesIn rows 0)) = true-T (within 0 (privilegesIn rows 0)) (none-within (privilegesIn rows 0)) in
+    and-i (ltb 0 (suc k)) _ low (and-i (ltb 0 (suc k)) _ low (and-i (within 0 (privilegesIn rows 0)) true held tt))
 
 module _ (w : ℕ) (rows : List SubjectRow) (n : ℕ) (x : SubjectRow) (b : Bool) (e : x ≡ subjectIn rows n) where
   pub subject-first : n ≡ 0

@@ -1,11 +1,15 @@
 // Questions 3 to 6: the rules of the rows, table by table. Each pass ends at the first row that breaks one. A climb stands behind the test that its number
 // is in use, so that its length is bounded by the table.
 ghost use mathlib.Core.Path.{_≡_};
-ghost use Rattle.model.specs.Image.{tablesBy, widthOf, widthIn, subjectIn, itemIn, subjectsHold, itemsHold, linesHold, grantsHold, custodianRules, subjectRules, itemRules, lineRules, grantRules};
+ghost use Prim.Native.Nat.{_<_};
+ghost use lib.ListN.{length};
+ghost use Rattle.codec.specs.Inside.{inside};
+ghost use Rattle.model.specs.Image.{tablesBy, subjectFormat, widthOf, widthIn, subjectIn, itemIn, subjectsHold, itemsHold, linesHold, grantsHold, custodianRules, subjectRules, itemRules, lineRules, grantRules};
 use codec::read_rows::grant_at;
 use codec::read_rows::item_at;
 use codec::read_rows::line_at;
-use codec::read_rows::subject_at;
+use codec::read_rows::subject_in;
+use codec::read_rows::subjects_inside;
 use keys::grants::grant_before;
 use keys::lines::kind_fits;
 use keys::lines::line_before;
@@ -21,29 +25,35 @@ use model::is_within;
 use tables::items::is_list;
 use tables::items::none_or_list;
 use tables::subjects::in_tree;
-use tables::subjects::privileges_of;
 use tables::subjects::subject_used;
 use widths::all_privileges;
+use widths::subject_place;
+use widths::subject_size;
 
+// The pass reads the rows that lie inside the image. Any other is a row of zeros, which holds the rules of every subject but the custodian.
 pub fn subjects_hold(image: &[u8], layout: Layout) -> bool
     ensures { λ r. ⌜ r ≡ subjectsHold (tablesBy layout (now (image .entry))) ⌝ }
 {
-    let table = layout.subjects;
-    let used = table.used;
+    let rows = subjects_inside(image, layout);
     let mut n = 0;
-    while n < used {
+    while n < rows {
         if !subject_fits(image, layout, n) {
             return false;
         }
         n += 1;
     }
-    true
+    if 0 < n {
+        return true;
+    }
+    let table = layout.subjects;
+    table.used == 0
 }
 
 fn subject_fits(image: &[u8], layout: Layout, n: u32) -> bool
+    requires { ⌜ n < inside (subjectFormat (widthOf layout)) (layout .subjects) (length (now image)) ⌝ }
     ensures { λ r. ⌜ r ≡ subjectRules (widthIn (tablesBy layout (now (image .entry)))) (tablesBy layout (now (image .entry)) .subjects) n (subjectIn (tablesBy layout (now (image .entry)) .subjects) n) ⌝ }
 {
-    let row = subject_at(image, layout, n);
+    let row = subject_inside(image, layout, n);
     if n == 0 {
         return custodian_fits(layout, row);
     }
@@ -53,7 +63,18 @@ fn subject_fits(image: &[u8], layout: Layout, n: u32) -> bool
     if n <= row.creator.0 {
         return false;
     }
-    is_within(row.privileges, privileges_of(image, layout, row.creator))
+    let creator = subject_inside(image, layout, row.creator.0);
+    is_within(row.privileges, creator.privileges)
+}
+
+fn subject_inside(image: &[u8], layout: Layout, n: u32) -> SubjectRow
+    requires { ⌜ n < inside (subjectFormat (widthOf layout)) (layout .subjects) (length (now image)) ⌝ }
+    ensures { λ r. ⌜ r ≡ subjectIn (tablesBy layout (now (image .entry)) .subjects) n ⌝ }
+{
+    let at = subject_place(layout, n);
+    let size = subject_size(layout);
+    let end = at + size;
+    subject_in(&image[at..end], layout)
 }
 
 // Row 0: parent 0, all privileges, creator 0.
