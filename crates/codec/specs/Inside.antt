@@ -2,7 +2,7 @@
 use mathlib.Core.List.{List}
 use mathlib.Core.Logic.{⊎-elim}
 use mathlib.Core.Path.{_≡_, refl}
-use Prim.Native.Nat.{ℕ, suc, _+_, _-_, _*_, _/_, _<_, _≤_, min}
+use Prim.Native.Nat.{ℕ, suc, _+_, _-_, _*_, _/_, _<_, _≤_}
 use native.Mathlib.Nat.{le-div-iff-mul-le, div-lt-iff-lt-mul, suc-mul}
 use native.Mathlib.Omega.{arith}
 use lib.ListN.{length, getD, take, drop, replicate}
@@ -10,11 +10,8 @@ use Rattle.model.specs.declared.Table.{Table}
 use Rattle.model.specs.Image.{Format, size, rowsIn}
 use Rattle.laws.specs.Rows.{Lawful}
 use Rattle.laws.specs.Tests.{le-or-lt}
-use Rattle.codec.specs.RowLaws.{rowOf, row-unused, row-out, row-whole}
-
--- of the rows in use, those that end in the first len bytes
-unfoldable pub inside : {A : Type 0} → Format A → Table → ℕ → ℕ
-inside f t len = min (t .used) ((len - t .start) / size f)
+use Rattle.codec.specs.Reading.{rowOf, inside}
+use Rattle.codec.specs.RowLaws.{row-unused, row-out, row-whole}
 
 -- Counted as the code counts them. p is the place behind the rows in use.
 module _ {A : Type 0} (f : Format A) (t : Table) (len : ℕ) (p : ℕ) (place : p ≡ t .start + t .used * size f) where
@@ -43,7 +40,7 @@ module _ {A : Type 0} (f : Format A) (t : Table) (len : ℕ) (p : ℕ) (place : 
 
 -- Row k.
 module _ {A : Type 0} (f : Format A) (law : Lawful f) (t : Table) (img : List ℕ) (k : ℕ) where
-  pub inside-used : k < inside f t (length img) → k < t .used
+  inside-used : k < inside f t (length img) → k < t .used
   unfolding inside
   inside-used h = omega arith
 

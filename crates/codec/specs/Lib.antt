@@ -1,3 +1,4 @@
--- Laws in the form in which the code reads rows. The definitions are those of `model` and `edits`.
+-- `Reading` has the words that contracts cite beside those of `model`; the others are laws in the form in which the code reads rows.
+pub mod Reading
 pub mod RowLaws
 pub mod Inside

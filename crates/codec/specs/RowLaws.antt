@@ -11,6 +11,7 @@ use Rattle.model.specs.Lists.{sum}
 use Rattle.model.specs.Image.{Format, size, firstRow, rowsIn, fieldAt, fieldsAt, noItem, itemIn}
 use Rattle.laws.specs.Fields.{field-in}
 use Rattle.laws.specs.Rows.{Lawful, row-in, row-past, whole-row, part-row}
+use Rattle.codec.specs.Reading.{rowOf}
 
 -- Fields in the front part of bytes are those of the bytes.
 
@@ -23,10 +24,6 @@ field-front k p r at h =
 fields-front : (ws p r : List ℕ) (at : ℕ) → at + sum ws ≤ length p → fieldsAt ws (p ++ r) at ≡ fieldsAt ws p at
 fields-front [] p r at h = refl
 fields-front (w ∷ ws) p r at h = rw (field-front w p r at (omega arith), fields-front ws p r (at + w) (omega arith))
-
--- the row of the fields that s begins with
-abbrev pub rowOf : {A : Type 0} → Format A → List ℕ → A
-rowOf f s = f .row (fieldsAt (f .widths) s 0)
 
 module _ {A : Type 0} (f : Format A) (t : Table) (img : List ℕ) (d : A) (k : ℕ) (r : A) where
   pub row-unused : t .used ≤ k → r ≡ d → r ≡ getD (rowsIn f t img) k d

@@ -3,8 +3,7 @@
 ghost use mathlib.Core.Path.{_≡_};
 ghost use lib.ListN.{length, getD};
 ghost use Rattle.model.specs.Image.{rowsIn, itemIn, widthOf, subjectFormat, noSubject, grantFormat, noGrant, lineFormat, noLine, itemFormat, noItem};
-ghost use Rattle.codec.specs.RowLaws.{rowOf};
-ghost use Rattle.codec.specs.Inside.{inside};
+ghost use Rattle.codec.specs.Reading.{rowOf, inside};
 use edits::places;
 use fields::field;
 use model::GrantRow;

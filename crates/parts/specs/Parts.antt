@@ -1,7 +1,7 @@
 -- The lines' part and what a grant adds, case by case as the code goes.
 use mathlib.Core.Bool.{Bool, true, false, not, cond}
 use mathlib.Core.List.{List}
-use mathlib.Core.Option.{Option, none}
+use mathlib.Core.Option.{none}
 use mathlib.Core.Path.{_≡_, refl}
 use Prim.Native.Nat.{ℕ, zero, suc}
 use borrow.Author.Tests.{eq-eqb, ne-eqb}
@@ -19,24 +19,20 @@ use Rattle.model.specs.Image.{Tables, widthIn, itemIn, parentIn, privilegesIn, 
 use Rattle.model.specs.Permission.{foundLine, foundGrant, lineIn, lineSet, directLine, groupWithin, groupLine, partOf, linesPart, lentOperations, lentPart}
 use Rattle.laws.specs.Tests.{said-no, said-yes}
 
+either-way : {A : Type 0} (b : Bool) (x : A) → cond b x x ≡ x
+either-way true x = refl
+either-way false x = refl
+
 -- no list, no lines: neither direct nor of a group
 
 no-group : (n : ℕ) (up : ℕ → ℕ) (lines : List LineRow) (s : ℕ) → groupWithin n up lines 0 s ≡ none
 unfolding groupWithin
 no-group zero up lines s = refl
-no-group (suc n) up lines s = rw (no-group n up lines (up s)) (either (ltb (up s) s))
-  where
-    either : (b : Bool) → cond b (orElse {A = LineRow} none none) none ≡ none
-    either true = refl
-    either false = refl
+no-group (suc n) up lines s = rw (no-group n up lines (up s)) (either-way (ltb (up s) s) none)
 
 no-direct : (lines : List LineRow) (o s : ℕ) → directLine lines o 0 s ≡ none
 unfolding directLine
-no-direct lines o s = either (eqb s o)
-  where
-    either : (b : Bool) → _≡_ {A = Option LineRow} (cond b none none) none
-    either true = refl
-    either false = refl
+no-direct lines o s = either-way (eqb s o) none
 
 module _ (t : Tables) (s i r : ℕ) where
   pub part-custodian : s ≡ 0 → r ≡ everything (widthIn t) → r ≡ linesPart t s i

@@ -17,7 +17,7 @@ newline = 10
 abbrev pub digit : ℕ → ℕ
 digit d = 48 + d
 
--- the digits of n, the most significant first, and none for 0; m is more than enough steps
+-- the digits of n, the most significant first, and none for 0; m counts the steps, of which n are more than enough
 unfoldable pub digitsWithin : ℕ → ℕ → List ℕ
 digitsWithin zero n = []
 digitsWithin (suc m) n = cond (eqb n 0) [] (digitsWithin m (n / 10) ++ digit (n % 10) ∷ [])

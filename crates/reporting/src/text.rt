@@ -53,7 +53,7 @@ fn put_byte(page: &mut [u8], end: usize, byte: u8) -> usize
     start
 }
 
-// The last digit of a number.
+// In ASCII.
 fn last_digit(number: u64) -> u8
     ensures { λ r. ⌜ r ≡ digit (number % 10) ⌝ }
 {

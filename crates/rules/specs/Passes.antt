@@ -14,7 +14,8 @@ use Rattle.model.specs.Sorted.{before, ascending}
 use Rattle.model.specs.Image.{Format, rowsIn}
 use Rattle.laws.specs.Rows.{Lawful, rows-count, rows-next}
 use Rattle.laws.specs.Tests.{T-true, true-T, two, eq-or-ne, lt-eq-gt, every-at, every-by}
-use Rattle.codec.specs.Inside.{inside, outside-row}
+use Rattle.codec.specs.Reading.{inside}
+use Rattle.codec.specs.Inside.{outside-row}
 
 -- Rows with a test that sees their number.
 module _ {A : Type 0} (f : Format A) (t : Table) (img : List ℕ) (d : A) (test : ℕ → A → Bool) where

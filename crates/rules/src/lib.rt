@@ -3,7 +3,7 @@
 ghost use mathlib.Core.Path.{_≡_};
 ghost use Prim.Native.Nat.{_<_};
 ghost use lib.ListN.{length};
-ghost use Rattle.codec.specs.Inside.{inside};
+ghost use Rattle.codec.specs.Reading.{inside};
 ghost use Rattle.model.specs.Image.{tablesBy, subjectFormat, widthOf, widthIn, subjectIn, itemIn, subjectsHold, itemsHold, linesHold, grantsHold, custodianRules, subjectRules, itemRules, lineRules, grantRules};
 use codec::read_rows::grant_at;
 use codec::read_rows::item_at;

@@ -13,8 +13,8 @@ use Rattle.model.specs.WhoAndWhat.{has}
 use Rattle.model.specs.Image.{Format, size, rowsIn, tablesBy, widthOf, subjectFormat, noSubject, parentIn, itemFormat, itemIn, itemUsed, isList}
 use Rattle.laws.specs.Rows.{rows-count, subject-lawful}
 use Rattle.laws.specs.Tests.{and-yes, said-yes}
-use Rattle.codec.specs.RowLaws.{rowOf}
-use Rattle.codec.specs.Inside.{inside, inside-row, outside-row}
+use Rattle.codec.specs.Reading.{rowOf, inside}
+use Rattle.codec.specs.Inside.{inside-row, outside-row}
 
 pub row-used : {A : Type 0} (f : Format A) (t : Table) (img : List ℕ) (n : ℕ) (b : Bool) → b ≡ ltb n (t .used) → b ≡ ltb n (length (rowsIn f t img))
 row-used f t img n b e = rw (rows-count f t img) e

@@ -4,7 +4,7 @@ ghost use Rattle.model.specs.Tree.{inTree};
 ghost use Prim.Native.Nat.{_<_};
 ghost use lib.ListN.{length};
 ghost use Rattle.model.specs.Image.{tablesBy, subjectUsed, parentIn, privilegesIn, subjectFormat, widthOf};
-ghost use Rattle.codec.specs.Inside.{inside};
+ghost use Rattle.codec.specs.Reading.{inside};
 use codec::read_rows::subject_at;
 use codec::read_rows::subject_in;
 use codec::read_rows::subjects_inside;

@@ -1,5 +1,5 @@
 #![allow(dead_code)]
-//! A second implementation of the access tables, written from the paper alone.
+//! A second implementation of the access tables, written from the paper.
 //!
 //! Tests compare it with the implementation under test, benchmarks take it as
 //! the baseline. It speaks in plain numbers, so it shares no type with either.
