@@ -9,6 +9,10 @@
  * What the host sees to: `image` points to `length` bytes and is not a null pointer, also where length is 0; nobody else writes
  * them during a call. Calls keep nothing between them and may run at the same time on different images, and calls that take the
  * image as const on the same one.
+ *
+ * A call stays within DACM_STACK_BYTES of stack, whatever the image holds: the search for a group's line goes up by recursion, a
+ * level for each group above the subject, and an image has room for a chain of some 5,450. The tests run the deepest ones on a
+ * thread with just so much.
  */
 #ifndef DACM_H
 #define DACM_H
@@ -19,6 +23,9 @@
 #ifdef __cplusplus
 extern "C" {
 #endif
+
+/* The stack that a call may need. */
+#define DACM_STACK_BYTES 524288
 
 /* A subject, a role and an item are each a number, and a type of their own: none passes for another. */
 typedef struct { uint32_t number; } dacm_subject; /* 0 is the custodian */

@@ -5,6 +5,12 @@
 //! [`Refusal`] and leaves every byte as it was. The calls are a proved static library; this crate
 //! only dresses them in Rust's types.
 //!
+//! # Stack
+//!
+//! A call stays within [`STACK_BYTES`] of stack, whatever the image holds. The search for a group's
+//! line goes up by recursion, a level for each group above the subject, and an image has room for a
+//! chain of some 5,450.
+//!
 //! # An image and some calls
 //!
 //! An image is 36 to 65,536 bytes, every field 32 bits, little-endian. Its header has the used rows
@@ -71,6 +77,9 @@ pub use fields::{Flags, Kind};
 pub use numbers::{Item, Role, Subject};
 pub use privileges::Privileges;
 pub use refusal::Refusal;
+
+/// The stack that a call may need, on the deepest chain of groups that an image can hold.
+pub const STACK_BYTES: usize = 512 * 1024;
 
 /// The Rust blocks of the README run as documentation tests.
 #[cfg(doctest)]

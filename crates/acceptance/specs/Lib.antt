@@ -1,2 +1,7 @@
--- Laws of the seven answers as one number, in the form in which the code asks. The definitions are those of `model`.
+-- The rules of a subject by the bytes of all; then laws in the form in which the code asks questions 1 to 7. The definitions of the questions are those of `model`.
+pub mod SubjectRows
+pub mod Layouts
+pub mod Zeros
+pub mod Rules
+pub mod Passes
 pub mod Seven

@@ -6,13 +6,13 @@ use Prim.Native.Nat.{ℕ}
 use lib.Dec.{leb}
 use lib.ListN.{length}
 use Rattle.model.specs.declared.Layout.{Layout}
-use Rattle.model.specs.Image.{layoutOf}
+use Rattle.model.specs.Image.{shortestImage, longestImage, layoutOf}
 use Rattle.model.specs.Questions.{firstNo, questionsBy, imageQuestions, check}
 use Rattle.laws.specs.Answers.{asked-no}
 
 -- What is answered before there is a layout, and by the layout of the image's header.
 module _ (img : List ℕ) where
-  pub refused-length : (t : Bool) → t ≡ (leb 36 (length img) && leb (length img) 65536) → not t ≡ true → 1 ≡ check img
+  pub refused-length : (t : Bool) → t ≡ (leb shortestImage (length img) && leb (length img) longestImage) → not t ≡ true → 1 ≡ check img
   unfolding check imageQuestions
   refused-length t told h = asked-no 1 _ _ t told h
 

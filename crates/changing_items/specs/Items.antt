@@ -1,6 +1,6 @@
 -- Create item, bind and hand over: the row that was added or written anew leaves the image that the call's definition gives.
 use mathlib.Core.List.{List}
-use mathlib.Core.Path.{_≡_, sym, _∙_}
+use mathlib.Core.Path.{_≡_, refl, sym, _∙_}
 use Prim.Native.Nat.{ℕ, _+_, _-_, _/_, _<_, _^_}
 use native.Mathlib.Numerals.{add-one}
 use native.Mathlib.Omega.{arith}
@@ -10,26 +10,32 @@ use mir.Syntax.{w8}
 use mir.Val.{Fits}
 use Rattle.model.specs.declared.Answer.{Answer}
 use Rattle.model.specs.declared.Layout.{Layout}
+use Rattle.model.specs.declared.Opened.{Opened}
+use Rattle.model.specs.declared.Opened.the-variants.{With}
 use Rattle.model.specs.declared.Table.{Table}
 use Rattle.model.specs.declared.ItemRow.{ItemRow}
-use Rattle.model.specs.Image.{layoutOf, tablesBy, tables, size, rowsIn, itemFormat, itemRow, itemIn, encode}
-use Rattle.model.specs.Calls.{withItems, withList, withOwner, after, made}
+use Rattle.model.specs.Image.{layoutOf, tablesBy, tables, size, rowsIn, itemFormat, itemRow, itemIn, encode, withList, withOwner}
+use Rattle.model.specs.Calls.{withItems, after, made}
 use Rattle.model.specs.Calls.Change.{createItem, bind, handOver}
-use Rattle.model.specs.Questions.{firstNo, questions, answer, Accepted, act}
+use Rattle.model.specs.Questions.{firstNo, questions, answer, opened, act}
 use Rattle.laws.specs.WellFormed.{Passed}
 use Rattle.laws.specs.Answers.{passed-first}
 use Rattle.laws.specs.Rows.{rows-count}
-use Rattle.laws.specs.Acts.{was-passed, was-accepted, leaves, slice-bytes}
-use Rattle.stores.specs.Stores.{itemsCounter, withRow, overItem}
-use Rattle.stores.specs.Stored.{items-stored, appended, item-stored}
+use Rattle.laws.specs.Opens.{layout-with}
+use Rattle.store.specs.Stores.{itemsCounter, withRow, overItem}
+use Rattle.store.specs.Stored.{items-stored}
+use Rattle.store.specs.Calls.{row-more, item-anew}
 
--- an item's row with another list and with another owner, told by callees
-module _ (table : Table) (i : ℕ) (s new : List ℕ) (x y old : ItemRow) (read : x ≡ old) (e : new ≡ overItem table i y s) where
-  pub list-put : (l : ℕ) → y ≡ itemRow (x .owner .0) l (x .flags) → new ≡ overItem table i (withList old l) s
-  list-put l row = e ∙ rw (row, read)
+-- an item's row anew, made of the one that was read
+pub row-anew : (table : Table) (i : ℕ) (s new : List ℕ) (x y : ItemRow) → x ≡ y → new ≡ overItem table i x s → new ≡ overItem table i y s
+row-anew table i s new x y made-of e = e ∙ rw made-of
 
-  pub owner-put : (o : ℕ) → y ≡ itemRow o (x .list .0) (x .flags) → new ≡ overItem table i (withOwner old o) s
-  owner-put o row = e ∙ rw (row, read)
+module _ (x old : ItemRow) (read : x ≡ old) (y : ItemRow) where
+  pub list-anew : (l : ℕ) → y ≡ withList x l → y ≡ withList old l
+  list-anew l e = e ∙ rw read
+
+  pub owner-anew : (o : ℕ) → y ≡ withOwner x o → y ≡ withOwner old o
+  owner-anew o e = e ∙ rw read
 
 -- The new item's number, which fits its type: there is a free row.
 module _ (img : List ℕ) (lay : Layout) (c r l f : ℕ) where
@@ -45,46 +51,40 @@ module _ (img : List ℕ) (lay : Layout) (c r l f : ℕ) where
       let few : length (rowsIn itemFormat (lay .items) img) ≡ lay .items .used = rows-count itemFormat (lay .items) img in
       omega arith
 
-module _ (img : List ℕ) (a : Answer) (lay : Layout) (there : lay ≡ layoutOf img) (new : List ℕ) (m : ℕ) (told : a ≡ answer 0 m) where
+module _ (img : List ℕ) (o : Opened) (is : o ≡ opened img) (lay : Layout) (case : o ≡ With lay) (a : Answer) (m : ℕ) (told : a ≡ answer 0 m) (new : List ℕ) where
+  there : lay ≡ layoutOf img
+  there = layout-with img o is lay case
+
   pub item-created : (c r l f : ℕ) (x : ItemRow)
-      → a ≡ act img (createItem c r l f) .answer
       → x ≡ itemRow c l f
       → new ≡ withRow itemFormat itemsCounter (lay .items) (lay .items .used) x img
       → ((i : ℕ) → Fits w8 (getD img i 0))
+      → a ≡ act img (createItem c r l f) .answer
       → new ≡ act img (createItem c r l f) .image
   unfolding questions after tablesBy
-  item-created c r l f x answered row e byte =
-      let passed : Passed (questions (tables img) (createItem c r l f)) = was-passed img (createItem c r l f) a answered m told in
-      let accepted : Accepted img = was-accepted img (createItem c r l f) a answered m told (slice-bytes img byte) in
-      let added =
-      appended itemFormat (layoutOf img .items) itemsCounter (tables img .room .items) img (λ rows. encode (withItems (tables img) rows)) (items-stored img accepted)
-      (itemRow c l f) (passed .1 .1 .1 .1 .0) in
-      leaves img (createItem c r l f) a answered m told new (e ∙ rw (row, there) added)
+  item-created c r l f x row e bytes answered =
+      row-more itemFormat (layoutOf img .items) itemsCounter (tables img .room .items) img
+      (λ rows. encode (withItems (tables img) rows))
+      (items-stored img)
+      (createItem c r l f)
+      a answered m told bytes new (itemRow c l f) refl
+      (λ passed. passed .1 .1 .1 .1 .0)
+      (e ∙ rw (row, there) refl)
 
   pub item-bound : (c i l : ℕ)
-      → a ≡ act img (bind c i l) .answer
       → new ≡ overItem (lay .items) i (withList (itemIn (tablesBy lay img .items) i) l) img
       → ((i : ℕ) → Fits w8 (getD img i 0))
+      → a ≡ act img (bind c i l) .answer
       → new ≡ act img (bind c i l) .image
-  unfolding questions after tablesBy
-  item-bound c i l answered e byte =
-      let passed : Passed (questions (tables img) (bind c i l)) = was-passed img (bind c i l) a answered m told in
-      let accepted : Accepted img = was-accepted img (bind c i l) a answered m told (slice-bytes img byte) in
-      let anew =
-      item-stored (layoutOf img .items) itemsCounter (tables img .room .items) img (λ rows. encode (withItems (tables img) rows)) (items-stored img accepted) i
-      (withList (itemIn (tables img .items) i) l) (passed .1 .0) in
-      leaves img (bind c i l) a answered m told new (e ∙ rw there anew)
+  unfolding questions after
+  item-bound c i l e bytes answered =
+      item-anew img (bind c i l) a answered m told bytes new i (withList (itemIn (tables img .items) i) l) refl (λ passed. passed .1 .0) (e ∙ rw there refl)
 
-  pub item-handed : (c i o : ℕ)
-      → a ≡ act img (handOver c i o) .answer
-      → new ≡ overItem (lay .items) i (withOwner (itemIn (tablesBy lay img .items) i) o) img
+  pub item-handed : (c i w : ℕ)
+      → new ≡ overItem (lay .items) i (withOwner (itemIn (tablesBy lay img .items) i) w) img
       → ((i : ℕ) → Fits w8 (getD img i 0))
-      → new ≡ act img (handOver c i o) .image
-  unfolding questions after tablesBy
-  item-handed c i o answered e byte =
-      let passed : Passed (questions (tables img) (handOver c i o)) = was-passed img (handOver c i o) a answered m told in
-      let accepted : Accepted img = was-accepted img (handOver c i o) a answered m told (slice-bytes img byte) in
-      let anew =
-      item-stored (layoutOf img .items) itemsCounter (tables img .room .items) img (λ rows. encode (withItems (tables img) rows)) (items-stored img accepted) i
-      (withOwner (itemIn (tables img .items) i) o) (passed .1 .1 .0) in
-      leaves img (handOver c i o) a answered m told new (e ∙ rw there anew)
+      → a ≡ act img (handOver c i w) .answer
+      → new ≡ act img (handOver c i w) .image
+  unfolding questions after
+  item-handed c i w e bytes answered =
+      item-anew img (handOver c i w) a answered m told bytes new i (withOwner (itemIn (tables img .items) i) w) refl (λ passed. passed .1 .1 .0) (e ∙ rw there refl)

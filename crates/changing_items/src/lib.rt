@@ -1,35 +1,38 @@
 // The calls that change items: create, bind and hand over.
 ghost use mathlib.Core.Path.{_≡_};
-ghost use Rattle.model.specs.Image.{tablesBy, itemIn};
-ghost use Rattle.model.specs.Calls.{withList, withOwner};
+ghost use Rattle.model.specs.Image.{tablesBy, itemIn, withList, withOwner};
 ghost use Rattle.model.specs.Calls.Change.{createItem, bind, handOver};
 ghost use Rattle.model.specs.Questions.{act};
-ghost use Rattle.stores.specs.Stores.{overItem};
-use acceptance::check;
-use codec::header::layout_of;
-use codec::read_rows::item_at;
+ghost use Rattle.store.specs.Stores.{overItem};
+use crate::questions::bind_refusal;
+use crate::questions::create_refusal;
+use crate::questions::hand_over_refusal;
+use acceptance::open;
 use model::Answer;
 use model::Item;
 use model::ItemRow;
 use model::Layout;
+use model::Opened;
 use model::Role;
 use model::Subject;
-use questions_items::bind_refusal;
-use questions_items::create_refusal;
-use questions_items::hand_over_refusal;
-use stores::add_item;
-use stores::replace_item;
+use rows::read::item_at;
+use store::add_item;
+use store::replace_item;
+
+mod questions;
 
 // Create an item, which its caller owns, governed by a list or by none. Its number is the result.
 pub fn create_item(image: &mut [u8], caller: Subject, role: Role, list: Item, flags: u32) -> Answer
     ensures { λ r. ⌜ r ≡ act (now (image .entry)) (createItem (caller .0) (role .0) (list .0) flags) .answer ⌝ }
     ensures { λ _. ⌜ now (image .exit) ≡ act (now (image .entry)) (createItem (caller .0) (role .0) (list .0) flags) .image ⌝ }
 {
-    let unfit = check(image);
-    if unfit != 0 {
-        return Answer::refused(unfit);
-    }
-    let layout = layout_of(image);
+    let opened = open(image);
+    let layout = match opened {
+        Opened::With(layout) => layout,
+        Opened::Refused(number) => {
+            return Answer::refused(number);
+        }
+    };
     let refused = create_refusal(image, layout, caller, role, list, flags);
     if refused != 0 {
         return Answer::refused(refused);
@@ -44,11 +47,13 @@ pub fn bind(image: &mut [u8], caller: Subject, item: Item, list: Item) -> Answer
     ensures { λ r. ⌜ r ≡ act (now (image .entry)) (bind (caller .0) (item .0) (list .0)) .answer ⌝ }
     ensures { λ _. ⌜ now (image .exit) ≡ act (now (image .entry)) (bind (caller .0) (item .0) (list .0)) .image ⌝ }
 {
-    let unfit = check(image);
-    if unfit != 0 {
-        return Answer::refused(unfit);
-    }
-    let layout = layout_of(image);
+    let opened = open(image);
+    let layout = match opened {
+        Opened::With(layout) => layout,
+        Opened::Refused(number) => {
+            return Answer::refused(number);
+        }
+    };
     let refused = bind_refusal(image, layout, caller, item, list);
     if refused != 0 {
         return Answer::refused(refused);
@@ -62,11 +67,13 @@ pub fn hand_over(image: &mut [u8], caller: Subject, item: Item, owner: Subject) 
     ensures { λ r. ⌜ r ≡ act (now (image .entry)) (handOver (caller .0) (item .0) (owner .0)) .answer ⌝ }
     ensures { λ _. ⌜ now (image .exit) ≡ act (now (image .entry)) (handOver (caller .0) (item .0) (owner .0)) .image ⌝ }
 {
-    let unfit = check(image);
-    if unfit != 0 {
-        return Answer::refused(unfit);
-    }
-    let layout = layout_of(image);
+    let opened = open(image);
+    let layout = match opened {
+        Opened::With(layout) => layout,
+        Opened::Refused(number) => {
+            return Answer::refused(number);
+        }
+    };
     let refused = hand_over_refusal(image, layout, caller, item, owner);
     if refused != 0 {
         return Answer::refused(refused);
@@ -79,22 +86,12 @@ fn put_list(image: &mut [u8], layout: Layout, item: Item, list: Item)
     ensures { λ _. ⌜ now (image .exit) ≡ overItem (layout .items) (item .0) (withList (itemIn (tablesBy layout (now (image .entry)) .items) (item .0)) (list .0)) (now (image .entry)) ⌝ }
 {
     let row = item_at(image, layout, item);
-    replace_item(
-        image,
-        layout,
-        item,
-        ItemRow::new(row.owner, list, row.flags),
-    );
+    replace_item(image, layout, item, row.with_list(list));
 }
 
 fn put_owner(image: &mut [u8], layout: Layout, item: Item, owner: Subject)
     ensures { λ _. ⌜ now (image .exit) ≡ overItem (layout .items) (item .0) (withOwner (itemIn (tablesBy layout (now (image .entry)) .items) (item .0)) (owner .0)) (now (image .entry)) ⌝ }
 {
     let row = item_at(image, layout, item);
-    replace_item(
-        image,
-        layout,
-        item,
-        ItemRow::new(owner, row.list, row.flags),
-    );
+    replace_item(image, layout, item, row.with_owner(owner));
 }

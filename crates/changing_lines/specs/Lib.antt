@@ -1,2 +1,3 @@
--- Laws in the form in which the calls' code comes to its returns. The definitions are those of `model`, `stores` and `spots`.
+-- Laws in the form in which the code asks and comes to its returns. The definitions are those of `model` and `store`.
+pub mod Questions
 pub mod Lines

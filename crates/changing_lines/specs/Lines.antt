@@ -1,6 +1,6 @@
--- Set line and remove line: the row that was stored or taken out at its spot leaves the image that the call's definition gives.
+-- Set line and remove line: the row that was stored or taken out leaves the image that the call's definition gives.
 use mathlib.Core.List.{List, [], _∷_}
-use mathlib.Core.Path.{_≡_, _∙_}
+use mathlib.Core.Path.{_≡_, refl, _∙_}
 use Prim.Native.Nat.{ℕ}
 use lib.ListN.{getD}
 use mir.Syntax.{w8}
@@ -8,47 +8,63 @@ use mir.Val.{Fits}
 use Rattle.model.specs.declared.Answer.{Answer}
 use Rattle.model.specs.declared.Layout.{Layout}
 use Rattle.model.specs.declared.LineRow.{LineRow}
+use Rattle.model.specs.declared.Opened.{Opened}
+use Rattle.model.specs.declared.Opened.the-variants.{With}
+use Rattle.model.specs.Sorted.{place}
 use Rattle.model.specs.Image.{layoutOf, tablesBy, tables, widthOf, lineFormat, lineKey, lineRow, noLine, encode}
 use Rattle.model.specs.Calls.{withLines, after}
 use Rattle.model.specs.Calls.Change.{setLine, removeLine}
-use Rattle.model.specs.Questions.{questions, answer, Accepted, act}
-use Rattle.laws.specs.WellFormed.{Passed}
+use Rattle.model.specs.Questions.{firstNo, questions, answer, opened, act}
 use Rattle.laws.specs.Back.{tables-well-formed}
-use Rattle.laws.specs.Acts.{was-passed, was-accepted, leaves, slice-bytes}
-use Rattle.stores.specs.Stores.{linesCounter, storedAt, takenAt}
-use Rattle.stores.specs.Stored.{lines-stored, put-stored, cut-stored}
-use Rattle.spots.specs.declared.Spot.{Spot}
-use Rattle.spots.specs.Spots.{lineSpotOf}
-use Rattle.spots.specs.SpotLaws.{spot-done}
+use Rattle.laws.specs.Opens.{layout-with}
+use Rattle.search.specs.declared.Spot.{Spot}
+use Rattle.search.specs.Spots.{spotIn}
+use Rattle.store.specs.declared.Storing.{Storing}
+use Rattle.store.specs.declared.Storing.the-variants.{At}
+use Rattle.store.specs.declared.Removing.{Removing}
+use Rattle.store.specs.declared.Removing.the-variants.{Row}
+use Rattle.store.specs.Stores.{linesCounter, storing, removing, storedAt, withoutRow}
+use Rattle.store.specs.Stored.{lines-stored}
+use Rattle.store.specs.Calls.{store-spot, remove-row, row-set, row-cut}
 
-module _ (img : List ℕ) (a : Answer) (lay : Layout) (there : lay ≡ layoutOf img) (new : List ℕ) (m : ℕ) (told : a ≡ answer 0 m) (spot : Spot) where
-  pub line-set : (c r l k s v : ℕ) (x : LineRow)
-      → a ≡ act img (setLine c r l k s v) .answer
-      → spot ≡ lineSpotOf (tablesBy lay img) (setLine c r l k s 0) l k s
+module _ (img : List ℕ) (o : Opened) (is : o ≡ opened img) (lay : Layout) (case : o ≡ With lay) (a : Answer) (m : ℕ) (told : a ≡ answer 0 m) (new : List ℕ) where
+  there : lay ≡ layoutOf img
+  there = layout-with img o is lay case
+
+  pub line-set : (c r l k s v : ℕ) (asked : Storing) (spot : Spot) (x : LineRow)
+      → asked ≡ storing (firstNo (questions (tablesBy lay img) (setLine c r l k s v))) (spotIn lineKey (l ∷ k ∷ s ∷ []) (tablesBy lay img .lines))
+      → asked ≡ At spot
       → x ≡ lineRow l k s v
       → new ≡ storedAt (lineFormat (widthOf lay)) linesCounter (lay .lines) spot x img
       → ((i : ℕ) → Fits w8 (getD img i 0))
+      → a ≡ act img (setLine c r l k s v) .answer
       → new ≡ act img (setLine c r l k s v) .image
   unfolding questions after tablesBy
-  line-set c r l k s v x answered so row e byte =
-      let passed : Passed (questions (tables img) (setLine c r l k s v)) = was-passed img (setLine c r l k s v) a answered m told in
-      let accepted : Accepted img = was-accepted img (setLine c r l k s v) a answered m told (slice-bytes img byte) in
-      let put =
-      put-stored (lineFormat (widthOf (layoutOf img))) lineKey noLine (layoutOf img .lines) linesCounter (tables img .room .lines) img (λ rows. encode (withLines (tables img) rows))
-      (lines-stored img accepted) (lineRow l k s v) (passed .1 .1 .1 .1 .1 .0) in
-      leaves img (setLine c r l k s v) a answered m told new (e ∙ rw (spot-done lineKey (λ t. t .lines) img (setLine c r l k s v) a m lay spot (l ∷ k ∷ s ∷ []) there told answered so, row, there) put)
+  line-set c r l k s v asked spot x so at row e bytes answered =
+      row-set (lineFormat (widthOf (layoutOf img))) (layoutOf img .lines) linesCounter (tables img .room .lines) img
+      (λ rows. encode (withLines (tables img) rows))
+      (lines-stored img)
+      (setLine c r l k s v)
+      a answered m told bytes new lineKey noLine (lineRow l k s v) spot refl
+      (λ passed. passed .1 .1 .1 .1 .1 .0)
+      (rw there at (store-spot (firstNo (questions (tablesBy lay img) (setLine c r l k s v))) (spotIn lineKey (l ∷ k ∷ s ∷ []) (tablesBy lay img .lines)) asked so spot at))
+      (e ∙ rw (row, there) refl)
 
-  pub line-cut : (c r l k s : ℕ)
-      → a ≡ act img (removeLine c r l k s) .answer
-      → spot ≡ lineSpotOf (tablesBy lay img) (removeLine c r l k s) l k s
-      → new ≡ takenAt (lineFormat (widthOf lay)) linesCounter (lay .lines) spot img
+  pub line-cut : (c r l k s : ℕ) (asked : Removing) (n : ℕ)
+      → asked ≡ removing (firstNo (questions (tablesBy lay img) (removeLine c r l k s))) (place lineKey (l ∷ k ∷ s ∷ []) (tablesBy lay img .lines))
+      → asked ≡ Row n
+      → new ≡ withoutRow (lineFormat (widthOf lay)) linesCounter (lay .lines) n img
       → ((i : ℕ) → Fits w8 (getD img i 0))
+      → a ≡ act img (removeLine c r l k s) .answer
       → new ≡ act img (removeLine c r l k s) .image
   unfolding questions after tablesBy
-  line-cut c r l k s answered so e byte =
-      let passed : Passed (questions (tables img) (removeLine c r l k s)) = was-passed img (removeLine c r l k s) a answered m told in
-      let accepted : Accepted img = was-accepted img (removeLine c r l k s) a answered m told (slice-bytes img byte) in
-      let cut =
-      cut-stored (lineFormat (widthOf (layoutOf img))) lineKey noLine (layoutOf img .lines) linesCounter (tables img .room .lines) img (λ rows. encode (withLines (tables img) rows))
-      (lines-stored img accepted) (l ∷ k ∷ s ∷ []) (passed .1 .1 .1 .1 .1 .0) (tables-well-formed img accepted .lines-room) in
-      leaves img (removeLine c r l k s) a answered m told new (e ∙ rw (spot-done lineKey (λ t. t .lines) img (removeLine c r l k s) a m lay spot (l ∷ k ∷ s ∷ []) there told answered so, there) cut)
+  line-cut c r l k s asked n so at e bytes answered =
+      row-cut (lineFormat (widthOf (layoutOf img))) (layoutOf img .lines) linesCounter (tables img .room .lines) img
+      (λ rows. encode (withLines (tables img) rows))
+      (lines-stored img)
+      (removeLine c r l k s)
+      a answered m told bytes new lineKey noLine (l ∷ k ∷ s ∷ []) n refl
+      (λ passed. passed .1 .1 .1 .1 .1 .0)
+      (λ accepted. tables-well-formed img accepted .lines-room)
+      (rw there at (remove-row (firstNo (questions (tablesBy lay img) (removeLine c r l k s))) (place lineKey (l ∷ k ∷ s ∷ []) (tablesBy lay img .lines)) asked so n at))
+      (e ∙ rw there refl)

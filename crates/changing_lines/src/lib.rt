@@ -1,25 +1,23 @@
 // The calls that change lines: set line and remove line. The questions say where the line goes, and the change writes there.
 ghost use mathlib.Core.Path.{_≡_};
-ghost use Rattle.model.specs.Image.{widthOf, lineFormat};
 ghost use Rattle.model.specs.Calls.Change.{setLine, removeLine};
 ghost use Rattle.model.specs.Questions.{act};
-ghost use Rattle.stores.specs.Stores.{linesCounter, storedAt, takenAt};
-use acceptance::check;
-use codec::header::layout_of;
+use crate::questions::remove_line_removing;
+use crate::questions::set_line_storing;
+use acceptance::open;
 use model::Answer;
 use model::Item;
-use model::Layout;
 use model::LineRow;
+use model::Opened;
 use model::Privileges;
 use model::Role;
 use model::Subject;
-use questions_lines::remove_line_spot;
-use questions_lines::set_line_spot;
-use spots::Spot;
-use stores::add_line;
-use stores::take_line;
-use widths::line_place;
-use writer::put_line;
+use store::Removing;
+use store::Storing;
+use store::store_line;
+use store::take_line;
+
+mod questions;
 
 // Set a line of a list. The list's line of the same kind for the same subject is overwritten.
 pub fn set_line(
@@ -34,23 +32,22 @@ pub fn set_line(
     ensures { λ r. ⌜ r ≡ act (now (image .entry)) (setLine (caller .0) (role .0) (list .0) kind (subject .0) privileges) .answer ⌝ }
     ensures { λ _. ⌜ now (image .exit) ≡ act (now (image .entry)) (setLine (caller .0) (role .0) (list .0) kind (subject .0) privileges) .image ⌝ }
 {
-    let unfit = check(image);
-    if unfit != 0 {
-        return Answer::refused(unfit);
+    let opened = open(image);
+    let layout = match opened {
+        Opened::With(layout) => layout,
+        Opened::Refused(number) => {
+            return Answer::refused(number);
+        }
+    };
+    let asked = set_line_storing(image, layout, caller, role, list, kind, subject, privileges);
+    match asked {
+        Storing::Refused(number) => Answer::refused(number),
+        Storing::At(spot) => {
+            let row = LineRow::new(list, kind, subject, privileges);
+            store_line(image, layout, spot, row);
+            Answer::done(0)
+        }
     }
-    let layout = layout_of(image);
-    let spot = set_line_spot(image, layout, caller, role, list, kind, subject);
-    let refused = spot.refusal();
-    if refused != 0 {
-        return Answer::refused(refused);
-    }
-    store_at(
-        image,
-        layout,
-        spot,
-        LineRow::new(list, kind, subject, privileges),
-    );
-    Answer::done(0)
 }
 
 // Remove a line of a list.
@@ -65,38 +62,19 @@ pub fn remove_line(
     ensures { λ r. ⌜ r ≡ act (now (image .entry)) (removeLine (caller .0) (role .0) (list .0) kind (subject .0)) .answer ⌝ }
     ensures { λ _. ⌜ now (image .exit) ≡ act (now (image .entry)) (removeLine (caller .0) (role .0) (list .0) kind (subject .0)) .image ⌝ }
 {
-    let unfit = check(image);
-    if unfit != 0 {
-        return Answer::refused(unfit);
-    }
-    let layout = layout_of(image);
-    let spot = remove_line_spot(image, layout, caller, role, list, kind, subject);
-    let refused = spot.refusal();
-    if refused != 0 {
-        return Answer::refused(refused);
-    }
-    take_at(image, layout, spot);
-    Answer::done(0)
-}
-
-// Over the row that has the key, or put in at the sorted place.
-fn store_at(image: &mut [u8], layout: Layout, spot: Spot, row: LineRow)
-    ensures { λ _. ⌜ now (image .exit) ≡ storedAt (lineFormat (widthOf layout)) linesCounter (layout .lines) spot row (now (image .entry)) ⌝ }
-{
-    match spot {
-        Spot::Over(n) => put_line(image, layout, line_place(layout, n), row),
-        Spot::New(n) => add_line(image, layout, n, row),
-        Spot::Refused(_) => {}
-    }
-}
-
-// Only a row that has the key is taken out.
-fn take_at(image: &mut [u8], layout: Layout, spot: Spot)
-    ensures { λ _. ⌜ now (image .exit) ≡ takenAt (lineFormat (widthOf layout)) linesCounter (layout .lines) spot (now (image .entry)) ⌝ }
-{
-    match spot {
-        Spot::Over(n) => take_line(image, layout, n),
-        Spot::New(_) => {}
-        Spot::Refused(_) => {}
+    let opened = open(image);
+    let layout = match opened {
+        Opened::With(layout) => layout,
+        Opened::Refused(number) => {
+            return Answer::refused(number);
+        }
+    };
+    let asked = remove_line_removing(image, layout, caller, role, list, kind, subject);
+    match asked {
+        Removing::Refused(number) => Answer::refused(number),
+        Removing::Row(row) => {
+            take_line(image, layout, row);
+            Answer::done(0)
+        }
     }
 }

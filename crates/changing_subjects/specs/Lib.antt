@@ -1,2 +1,3 @@
--- Laws in the form in which the call's code comes to its return. The definitions are those of `model` and `stores`.
+-- Laws in the form in which the code asks and comes to its returns. The definitions are those of `model` and `store`.
+pub mod Questions
 pub mod Subjects

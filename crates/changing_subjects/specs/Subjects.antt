@@ -1,6 +1,6 @@
 -- Define subject: the row that was added leaves the image that the call's definition gives.
 use mathlib.Core.List.{List}
-use mathlib.Core.Path.{_≡_, sym, _∙_}
+use mathlib.Core.Path.{_≡_, refl, sym, _∙_}
 use Prim.Native.Nat.{ℕ}
 use lib.ListN.{getD}
 use mir.Syntax.{w8}
@@ -8,18 +8,20 @@ use mir.Val.{Fits}
 use borrow.Author.Tests.{eq-eqb, ne-eqb}
 use Rattle.model.specs.declared.Answer.{Answer}
 use Rattle.model.specs.declared.Layout.{Layout}
+use Rattle.model.specs.declared.Opened.{Opened}
+use Rattle.model.specs.declared.Opened.the-variants.{With}
 use Rattle.model.specs.declared.Table.{Table}
 use Rattle.model.specs.declared.SubjectRow.{SubjectRow}
 use Rattle.model.specs.WhoAndWhat.{_∩_}
 use Rattle.model.specs.Image.{Tables, layoutOf, tablesBy, tables, widthOf, subjectFormat, subjectRow, privilegesIn, encode}
 use Rattle.model.specs.Calls.{stored, withSubjects, after, made}
 use Rattle.model.specs.Calls.Change.{defineSubject}
-use Rattle.model.specs.Questions.{questions, answer, Accepted, act}
-use Rattle.laws.specs.WellFormed.{Passed}
+use Rattle.model.specs.Questions.{questions, answer, opened, act}
 use Rattle.laws.specs.Rows.{rows-count}
-use Rattle.laws.specs.Acts.{was-passed, was-accepted, leaves, slice-bytes}
-use Rattle.stores.specs.Stores.{subjectsCounter, withRow}
-use Rattle.stores.specs.Stored.{subjects-stored, appended}
+use Rattle.laws.specs.Opens.{layout-with}
+use Rattle.store.specs.Stores.{subjectsCounter, withRow}
+use Rattle.store.specs.Stored.{subjects-stored}
+use Rattle.store.specs.Calls.{row-more}
 
 -- the privileges that are stored, by who calls
 module _ (t : Tables) (c v : ℕ) where
@@ -37,22 +39,25 @@ pub defined-row : (t : Tables) (table : Table) (img new : List ℕ) (w c p v kep
     → new ≡ withRow (subjectFormat w) subjectsCounter table (table .used) (subjectRow p (stored t c v) c) img
 defined-row t table img new w c p v kept x is row e = rw (e, row, is)
 
-module _ (img : List ℕ) (c r p v : ℕ) (a : Answer) (lay : Layout) (there : lay ≡ layoutOf img) where
+module _ (img : List ℕ) (o : Opened) (is : o ≡ opened img) (lay : Layout) (case : o ≡ With lay) (c r p v : ℕ) where
   pub made-subject : lay .subjects .used ≡ made (tablesBy lay img) (defineSubject c r p v)
   unfolding made tablesBy
   made-subject = sym (rows-count (subjectFormat (widthOf lay)) (lay .subjects) img)
 
-  pub defined : (new : List ℕ) (m : ℕ)
-      → a ≡ act img (defineSubject c r p v) .answer
+  pub defined : (a : Answer) (new : List ℕ) (m : ℕ)
       → a ≡ answer 0 m
       → new ≡ withRow (subjectFormat (widthOf lay)) subjectsCounter (lay .subjects) (lay .subjects .used) (subjectRow p (stored (tablesBy lay img) c v) c) img
       → ((i : ℕ) → Fits w8 (getD img i 0))
+      → a ≡ act img (defineSubject c r p v) .answer
       → new ≡ act img (defineSubject c r p v) .image
   unfolding questions after tablesBy
-  defined new m answered told e byte =
-      let passed : Passed (questions (tables img) (defineSubject c r p v)) = was-passed img (defineSubject c r p v) a answered m told in
-      let accepted : Accepted img = was-accepted img (defineSubject c r p v) a answered m told (slice-bytes img byte) in
-      let added =
-      appended (subjectFormat (widthOf (layoutOf img))) (layoutOf img .subjects) subjectsCounter (tables img .room .subjects) img (λ rows. encode (withSubjects (tables img) rows))
-      (subjects-stored img accepted) (subjectRow p (stored (tables img) c v) c) (passed .1 .1 .1 .1 .0) in
-      leaves img (defineSubject c r p v) a answered m told new (e ∙ rw there added)
+  defined a new m told e bytes answered =
+      row-more (subjectFormat (widthOf (layoutOf img))) (layoutOf img .subjects) subjectsCounter (tables img .room .subjects) img
+      (λ rows. encode (withSubjects (tables img) rows))
+      (subjects-stored img)
+      (defineSubject c r p v)
+      a answered m told bytes new
+      (subjectRow p (stored (tables img) c v) c)
+      refl
+      (λ passed. passed .1 .1 .1 .1 .0)
+      (e ∙ rw (layout-with img o is lay case) refl)

@@ -4,20 +4,22 @@ ghost use Rattle.model.specs.Image.{tablesBy, widthOf, subjectFormat, subjectRo
 ghost use Rattle.model.specs.Calls.{stored};
 ghost use Rattle.model.specs.Calls.Change.{defineSubject};
 ghost use Rattle.model.specs.Questions.{act};
-ghost use Rattle.stores.specs.Stores.{subjectsCounter, withRow};
-use acceptance::check;
-use codec::header::layout_of;
+ghost use Rattle.store.specs.Stores.{subjectsCounter, withRow};
+use crate::questions::define_refusal;
+use acceptance::open;
 use model::Answer;
 use model::CUSTODIAN;
 use model::Layout;
+use model::Opened;
 use model::Privileges;
 use model::Role;
 use model::Subject;
 use model::SubjectRow;
 use model::intersection;
-use questions_subjects::define_refusal;
-use stores::add_subject;
+use store::add_subject;
 use tables::subjects::privileges_of;
+
+mod questions;
 
 // Define a subject below a parent. Its number is the result.
 pub fn define_subject(
@@ -30,12 +32,14 @@ pub fn define_subject(
     ensures { λ r. ⌜ r ≡ act (now (image .entry)) (defineSubject (caller .0) (role .0) (parent .0) privileges) .answer ⌝ }
     ensures { λ _. ⌜ now (image .exit) ≡ act (now (image .entry)) (defineSubject (caller .0) (role .0) (parent .0) privileges) .image ⌝ }
 {
-    let unfit = check(image);
-    if unfit != 0 {
-        return Answer::refused(unfit);
-    }
-    let layout = layout_of(image);
-    let refused = define_refusal(image, layout, caller, role, parent);
+    let opened = open(image);
+    let layout = match opened {
+        Opened::With(layout) => layout,
+        Opened::Refused(number) => {
+            return Answer::refused(number);
+        }
+    };
+    let refused = define_refusal(image, layout, caller, role, parent, privileges);
     if refused != 0 {
         return Answer::refused(refused);
     }

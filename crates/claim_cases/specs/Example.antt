@@ -10,7 +10,7 @@ use Rattle.model.specs.Lists.{All}
 use Rattle.model.specs.Sorted.{same, find, put, ascending}
 use Rattle.model.specs.Tree.{climbs, inTree}
 use Rattle.model.specs.WhoAndWhat.{has}
-use Rattle.model.specs.Image.{tables, fieldAt, layoutOf, rowsIn, tablesBy, blockOf, encode, subjectsHold, itemsHold, linesHold, grantsHold, layoutRules, unusedRules}
+use Rattle.model.specs.Image.{tables, fieldAt, layoutOf, rowsIn, tablesBy, blockOf, encode, subjectsHold, itemsHold, linesHold, grantsHold, headerRules, tableRules, layoutRules, unusedRules}
 use Rattle.model.specs.Permission.{groupWithin, groupLine, directLine, partOf, operationUnder, objectUnder, permissionUnder, permissionSet}
 use Rattle.model.specs.Calls.{Change, after}
 use Rattle.model.specs.Calls.Change.{defineSubject, setGrant, bind}
@@ -57,7 +57,7 @@ computed : All T
     ∷ not (same (act stop its-call .image) stop)
     ∷ eqb (permissionSet (tables stop) 4 7 2) 11
     ∷ [])
-unfolding workshop proper coveredBut find put ascending climbs inTree has fieldAt layoutOf rowsIn tablesBy blockOf encode subjectsHold itemsHold linesHold grantsHold layoutRules unusedRules groupWithin groupLine directLine partOf operationUnder objectUnder permissionUnder after firstNo imageQuestions questions check act run writing walk
+unfolding workshop proper coveredBut find put ascending climbs inTree has fieldAt layoutOf rowsIn tablesBy blockOf encode subjectsHold itemsHold linesHold grantsHold headerRules tableRules layoutRules unusedRules groupWithin groupLine directLine partOf operationUnder objectUnder permissionUnder after firstNo imageQuestions questions check act run writing walk
 computed = tt and tt and tt and tt and tt and tt
 
 pub covered : Covered stop (example .second) 4 7 2

@@ -13,10 +13,9 @@ use Rattle.model.specs.Image.{Tables, privilegesIn}
 use Rattle.model.specs.Permission.{linesPart}
 use Rattle.laws.specs.Tests.{true-T, and-i, and-l, and-r, or-l, or-r, or-cases, every-All, All-map, All-left, All-right}
 use Rattle.strangers.specs.Sequences.{listOf, ownerOf, Followed, Insider}
-use Rattle.strangers.specs.Sequences.Start.{the-document}
 use Rattle.strangers.specs.Sequences.Followed.{its-list, list-of}
 use Rattle.strangers.specs.Sequences.Insider.{the-custodian, owns-document, owns-list, may-edit}
-use Rattle.strangers.specs.Walk.{someOf, among, followedLists, followed-walked}
+use Rattle.strangers.specs.Walk.{someOf, among, startsOf, followedLists, start-among, followed-walked}
 use Rattle.claim_cases.specs.Without.{Clause, same-clause, clausesOfWay, clausesOfEditor, clausesOf, InsiderBut}
 
 -- a test that counts as passed where something else is the case
@@ -40,18 +39,34 @@ some-of test (x ∷ xs) a h p = go (or-cases (eqb a x) (among a xs) h) (some-of 
     go (inl e) ih = or-l (test x) (someOf test xs) (rw (eqb→eq a x e) at p)
     go (inr k) ih = or-r (test x) (someOf test xs) (ih k p)
 
+-- the lists that control some items, and no further ones
+abbrev firstLists : Tables → List ℕ → List ℕ
+firstLists t [] = []
+firstLists t (d ∷ starts) = listOf t d ∷ firstLists t starts
+
+-- each of these items has its list among those
+first-among : (t : Tables) (starts : List ℕ) (d : ℕ) → T (among d starts) → T (among (listOf t d) (firstLists t starts))
+first-among t [] d h = h
+first-among t (x ∷ starts) d h = elim (or-cases (eqb d x) (among d starts) h) [
+  | inl e ↦ rw (eqb→eq d x e) (search (or-l, eqb-refl))
+  | inr k ↦ or-r (eqb (listOf t d) (listOf t x)) (among (listOf t d) (firstLists t starts)) (first-among t starts d k)
+]
+
 module _ (left-out : Clause) (t : Tables) (document : ℕ) where
   -- the followed lists: by the walk, or none where the document's list is left out, or that list alone where the way does not go on
   abbrev onWay : Dec (left-out ≡ Clause.list-of-document) → Dec (left-out ≡ Clause.lists-of-lists) → List ℕ
   onWay (yes e) (yes f) = []
   onWay (yes e) (no f) = []
-  onWay (no d) (yes e) = listOf t document ∷ []
+  onWay (no d) (yes e) = firstLists t (startsOf t document)
   onWay (no d) (no e) = followedLists t document
 
   abbrev lists : List ℕ
   lists = onWay (same-clause left-out Clause.list-of-document) (same-clause left-out Clause.lists-of-lists)
 
-  -- The subject owns one of them, and the lines allow it to edit one.
+  -- The subject owns the document; it owns one of the lists; the lines allow it to edit one.
+  abbrev ownsDocument : ℕ → Bool
+  ownsDocument s = someOf (λ d. eqb s (ownerOf t d)) (startsOf t document)
+
   abbrev ownsList : ℕ → Bool
   ownsList s = someOf (λ a. eqb s (ownerOf t a)) lists
 
@@ -70,7 +85,7 @@ module _ (left-out : Clause) (t : Tables) (document : ℕ) where
   abbrev pub apart : ℕ → Bool
   apart s =
       orIf (same-clause left-out Clause.custodian-inside) (not (eqb s custodian))
-      && orIf (same-clause left-out Clause.document-owner-inside) (not (eqb s (ownerOf t document)))
+      && orIf (same-clause left-out Clause.document-owner-inside) (not (ownsDocument s))
       && orIf (same-clause left-out Clause.list-owner-inside) (not (ownsList s))
       && orIf (same-clause left-out Clause.editor-inside) (not (editsList s))
 
@@ -94,7 +109,7 @@ module _ (left-out : Clause) (t : Tables) (document : ℕ) where
           → (d : Dec (left-out ≡ Clause.list-of-document)) (e : Dec (left-out ≡ Clause.lists-of-lists))
           → T (among a (onWay d e))
       go f counted (yes d) e = absurd (begins f counted d)
-      go (its-list the-document some-list) counted (no d) (yes e) = search (or-l, eqb-refl)
+      go (its-list {d} s some-list) counted (no n) (yes e) = first-among t (startsOf t document) d (start-among t document s)
       go (list-of f some-list) counted (no d) (yes e) = absurd (counted .0 e)
       go {a} f counted (no d) (no e) = followed-walked t document a f
 
@@ -116,9 +131,10 @@ module _ (left-out : Clause) (t : Tables) (document : ℕ) where
   -- an insider fails the test of its clause, where that one is asked
   inside-fails : {s : ℕ} → T (apart s) → (i : Insider t document s) → ¬ Counted (clausesOf i)
   inside-fails p the-custodian c = fails Clause.custodian-inside (eqb 0 custodian) (search (and-l, and-r)) (c .0) tt
-  inside-fails p (owns-document the-document) c =
-      let owner : ℕ = ownerOf t document in
-      fails Clause.document-owner-inside (eqb owner owner) (search (and-l, and-r)) (c .0) (eqb-refl owner)
+  inside-fails p (owns-document {d} s) c =
+      let owner : ℕ = ownerOf t d in
+      fails Clause.document-owner-inside (ownsDocument owner) (search (and-l, and-r)) (c .0)
+      (some-of (λ b. eqb owner (ownerOf t b)) (startsOf t document) d (start-among t document s) (eqb-refl owner))
   inside-fails p (owns-list {a} f) c =
       let owner : ℕ = ownerOf t a in
       fails Clause.list-owner-inside (ownsList owner) (search (and-l, and-r)) (c .0)

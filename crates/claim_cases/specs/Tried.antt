@@ -83,11 +83,14 @@ module _ (left-out : Clause) where
   stranger-is : (t : Tables) (document s : ℕ) → T (strangerBut t document s) → StrangerBut left-out t document s
   stranger-is t document s p =
       record {
-        present = or-if-is (same-clause left-out Clause.caller-present) (subjectUsed (t .subjects) s) (search (and-l, and-r));
-        outside = apart-is left-out t document s (search (and-l, and-r));
-        holds-none = λ d.
-            roles-apart-is left-out t document s
-            (or-if-is (same-clause left-out Clause.no-role-of-insiders) (rolesApart left-out t document s) (search (and-l, and-r)) d);
+        outsider =
+            record {
+              present = or-if-is (same-clause left-out Clause.caller-present) (subjectUsed (t .subjects) s) (search (and-l, and-r));
+              outside = apart-is left-out t document s (search (and-l, and-r));
+              holds-none = λ d.
+                  roles-apart-is left-out t document s
+                  (or-if-is (same-clause left-out Clause.no-role-of-insiders) (rolesApart left-out t document s) (search (and-l, and-r)) d);
+            };
       }
 
   claim-is : (t : Tables) (asker : ℕ) (added : List Change) (role : ℕ) → T (claimBut t asker added role) → ClaimBut left-out t asker added role

@@ -46,9 +46,14 @@ counts {t} {document} {s} (may-edit f allowed) =
 stranger-whole : (t : Tables) (document s : ℕ) → StrangerBut nothing t document s → Stranger t document s
 stranger-whole t document s x =
     record {
-      present = x .present (distinct nothing caller-present tt);
-      outside = λ i. x .outside record { insider = i; counts = counts i };
-      holds-none = All-map (λ g f e i. f e record { insider = i; counts = counts i }) (t .grants) (x .holds-none (distinct nothing no-role-of-insiders tt));
+      outsider =
+          record {
+            present = x .outsider .present (distinct nothing caller-present tt);
+            outside = λ i. x .outsider .outside record { insider = i; counts = counts i };
+            holds-none =
+                All-map (λ g f e i. f e record { insider = i; counts = counts i }) (t .grants)
+                (x .outsider .holds-none (distinct nothing no-role-of-insiders tt));
+          };
     }
 
 claim-whole : (t : Tables) (asker : ℕ) (added : List Change) {r : ℕ} → ClaimBut nothing t asker added r → Claim t asker added r
@@ -70,9 +75,12 @@ covered-whole stop second asker role document covered =
 stranger-back : (t : Tables) (document s : ℕ) → Stranger t document s → StrangerBut nothing t document s
 stranger-back t document s x =
     record {
-      present = λ d. x .present;
-      outside = λ i. x .outside (i .insider);
-      holds-none = λ d. All-map (λ g f e i. f e (i .insider)) (t .grants) (x .holds-none);
+      outsider =
+          record {
+            present = λ d. x .outsider .present;
+            outside = λ i. x .outsider .outside (i .insider);
+            holds-none = λ d. All-map (λ g f e i. f e (i .insider)) (t .grants) (x .outsider .holds-none);
+          };
     }
 
 claim-back : (t : Tables) (asker : ℕ) (added : List Change) {r : ℕ} → Claim t asker added r → ClaimBut nothing t asker added r

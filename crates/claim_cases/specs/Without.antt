@@ -57,10 +57,13 @@ module _ (left-out : Clause) where
     pub insider : Insider t document s
     pub counts : All (λ c. left-out ≢ c) (clausesOf insider)
 
-  pub record StrangerBut (t : Tables) (document s : ℕ) : Type 0 where
+  pub record OutsiderBut (t : Tables) (document s : ℕ) : Type 0 where
     pub present : left-out ≢ Clause.caller-present → T (subjectUsed (t .subjects) s)
     pub outside : ¬ InsiderBut t document s
     pub holds-none : left-out ≢ Clause.no-role-of-insiders → All (λ g. g .receiver .0 ≡ s → ¬ InsiderBut t document (g .grantor .0)) (t .grants)
+
+  pub record StrangerBut (t : Tables) (document s : ℕ) : Type 0 where
+    pub outsider : OutsiderBut t document s
 
   pub data ClaimBut (t : Tables) (asker : ℕ) (added : List Change) : ℕ → Type 0 where
     no-role : ClaimBut t asker added 0

@@ -15,7 +15,7 @@ use model::Subject;
 pub extern "C" fn dacm_check(image: &[u8]) -> Answer
     ensures { λ r. ⌜ r ≡ ask (now (image .entry)) checkImage ⌝ }
 {
-    asking::check_image(image)
+    asking::sets::check_image(image)
 }
 
 // The operation set of a subject under a role.
@@ -23,7 +23,7 @@ pub extern "C" fn dacm_check(image: &[u8]) -> Answer
 pub extern "C" fn dacm_operation_set(image: &[u8], subject: Subject, role: Role) -> Answer
     ensures { λ r. ⌜ r ≡ ask (now (image .entry)) (operationSetOf (subject .0) (role .0)) ⌝ }
 {
-    asking::operation_set(image, subject, role)
+    asking::sets::operation_set(image, subject, role)
 }
 
 // The permission set of a subject under a role on an item.
@@ -36,7 +36,7 @@ pub extern "C" fn dacm_permission_set(
 ) -> Answer
     ensures { λ r. ⌜ r ≡ ask (now (image .entry)) (permissionSetOf (subject .0) (role .0) (item .0)) ⌝ }
 {
-    asking::permission_set(image, subject, role, item)
+    asking::sets::permission_set(image, subject, role, item)
 }
 
 // The number of rows of a list.
@@ -44,7 +44,7 @@ pub extern "C" fn dacm_permission_set(
 pub extern "C" fn dacm_list_count(image: &[u8], list: Item) -> Answer
     ensures { λ r. ⌜ r ≡ ask (now (image .entry)) (countLines (list .0)) ⌝ }
 {
-    asking::count_lines(image, list)
+    asking::lines::count_lines(image, list)
 }
 
 // The byte of the image at which the rows of a list begin; 0 where it is refused or has none.
@@ -52,7 +52,7 @@ pub extern "C" fn dacm_list_count(image: &[u8], list: Item) -> Answer
 pub extern "C" fn dacm_list_start(image: &[u8], list: Item) -> usize
     ensures { λ r. ⌜ r ≡ partStart (now (image .entry)) (list .0) ⌝ }
 {
-    asking::lines_start(image, list)
+    asking::lines::lines_start(image, list)
 }
 
 // Some subject that may edit a list. Which of several is undecided.
@@ -60,7 +60,7 @@ pub extern "C" fn dacm_list_start(image: &[u8], list: Item) -> usize
 pub extern "C" fn dacm_find_editor(image: &[u8], list: Item) -> Answer
     ensures { λ r. ⌜ EditorAnswer (now (image .entry)) (list .0) r ⌝ }
 {
-    asking::find_editor(image, list)
+    asking::editor::find_editor(image, list)
 }
 
 // Define a subject below a parent.
@@ -75,7 +75,7 @@ pub extern "C" fn dacm_define_subject(
     ensures { λ r. ⌜ r ≡ act (now (image .entry)) (defineSubject (caller .0) (role .0) (parent .0) privileges) .answer ⌝ }
     ensures { λ _. ⌜ now (image .exit) ≡ act (now (image .entry)) (defineSubject (caller .0) (role .0) (parent .0) privileges) .image ⌝ }
 {
-    changing::define_subject(image, caller, role, parent, privileges)
+    changing_subjects::define_subject(image, caller, role, parent, privileges)
 }
 
 // Grant a role to a receiver.
@@ -91,7 +91,7 @@ pub extern "C" fn dacm_set_grant(
     ensures { λ r. ⌜ r ≡ act (now (image .entry)) (setGrant (caller .0) (receiver .0) (role .0) (domain .0) privileges) .answer ⌝ }
     ensures { λ _. ⌜ now (image .exit) ≡ act (now (image .entry)) (setGrant (caller .0) (receiver .0) (role .0) (domain .0) privileges) .image ⌝ }
 {
-    changing::set_grant(image, caller, receiver, role, domain, privileges)
+    changing_grants::set_grant(image, caller, receiver, role, domain, privileges)
 }
 
 // Take a role back from its receiver.
@@ -105,7 +105,7 @@ pub extern "C" fn dacm_remove_grant(
     ensures { λ r. ⌜ r ≡ act (now (image .entry)) (removeGrant (caller .0) (receiver .0) (role .0)) .answer ⌝ }
     ensures { λ _. ⌜ now (image .exit) ≡ act (now (image .entry)) (removeGrant (caller .0) (receiver .0) (role .0)) .image ⌝ }
 {
-    changing::remove_grant(image, caller, receiver, role)
+    changing_grants::remove_grant(image, caller, receiver, role)
 }
 
 // Set a line of a list.
@@ -122,7 +122,7 @@ pub extern "C" fn dacm_set_line(
     ensures { λ r. ⌜ r ≡ act (now (image .entry)) (setLine (caller .0) (role .0) (list .0) kind (subject .0) privileges) .answer ⌝ }
     ensures { λ _. ⌜ now (image .exit) ≡ act (now (image .entry)) (setLine (caller .0) (role .0) (list .0) kind (subject .0) privileges) .image ⌝ }
 {
-    changing::set_line(image, caller, role, list, kind, subject, privileges)
+    changing_lines::set_line(image, caller, role, list, kind, subject, privileges)
 }
 
 // Remove a line of a list.
@@ -138,7 +138,7 @@ pub extern "C" fn dacm_remove_line(
     ensures { λ r. ⌜ r ≡ act (now (image .entry)) (removeLine (caller .0) (role .0) (list .0) kind (subject .0)) .answer ⌝ }
     ensures { λ _. ⌜ now (image .exit) ≡ act (now (image .entry)) (removeLine (caller .0) (role .0) (list .0) kind (subject .0)) .image ⌝ }
 {
-    changing::remove_line(image, caller, role, list, kind, subject)
+    changing_lines::remove_line(image, caller, role, list, kind, subject)
 }
 
 // Create an item.
@@ -153,7 +153,7 @@ pub extern "C" fn dacm_create_item(
     ensures { λ r. ⌜ r ≡ act (now (image .entry)) (createItem (caller .0) (role .0) (list .0) flags) .answer ⌝ }
     ensures { λ _. ⌜ now (image .exit) ≡ act (now (image .entry)) (createItem (caller .0) (role .0) (list .0) flags) .image ⌝ }
 {
-    changing::create_item(image, caller, role, list, flags)
+    changing_items::create_item(image, caller, role, list, flags)
 }
 
 // Bind an item to a list, or to none.
@@ -162,7 +162,7 @@ pub extern "C" fn dacm_bind(image: &mut [u8], caller: Subject, item: Item, list:
     ensures { λ r. ⌜ r ≡ act (now (image .entry)) (bind (caller .0) (item .0) (list .0)) .answer ⌝ }
     ensures { λ _. ⌜ now (image .exit) ≡ act (now (image .entry)) (bind (caller .0) (item .0) (list .0)) .image ⌝ }
 {
-    changing::bind(image, caller, item, list)
+    changing_items::bind(image, caller, item, list)
 }
 
 // Hand an item over to a new owner.
@@ -176,5 +176,5 @@ pub extern "C" fn dacm_hand_over(
     ensures { λ r. ⌜ r ≡ act (now (image .entry)) (handOver (caller .0) (item .0) (owner .0)) .answer ⌝ }
     ensures { λ _. ⌜ now (image .exit) ≡ act (now (image .entry)) (handOver (caller .0) (item .0) (owner .0)) .image ⌝ }
 {
-    changing::hand_over(image, caller, item, owner)
+    changing_items::hand_over(image, caller, item, owner)
 }

@@ -6,7 +6,7 @@ use native.Mathlib.Omega.{arith}
 use lib.ListN.{length, getD, take, drop}
 use lib.Seq.{drop-cons}
 use Rattle.model.specs.Image.{value, fieldAt}
-use Rattle.edits.specs.Fitting.{fit}
+use Rattle.fields.specs.Fitting.{fit}
 
 pub four-bytes : (s : List ℕ) (at : ℕ)
     → at + 4 ≤ length s

@@ -12,13 +12,15 @@ use lib.Dec.{T, eqb}
 use lib.ListN.{getD}
 use Rattle.model.specs.declared.Answer.{Answer}
 use Rattle.model.specs.declared.Layout.{Layout}
+use Rattle.model.specs.declared.Opened.{Opened}
+use Rattle.model.specs.declared.Opened.the-variants.{With, Refused}
 use Rattle.model.specs.Lists.{Bytes}
-use Rattle.model.specs.Image.{Tables, layoutOf, tablesBy, tables, encode}
+use Rattle.model.specs.Image.{Tables, tablesBy, tables, encode}
 use Rattle.model.specs.Calls.{Change, Handed, after, made}
 use Rattle.model.specs.Calls.Change.{defineSubject, setGrant, removeGrant, setLine, removeLine, createItem, bind, handOver}
-use Rattle.model.specs.Questions.{imageQuestions, questions, firstNo, answer, answered, check, Accepted, act}
+use Rattle.model.specs.Questions.{imageQuestions, questions, firstNo, answer, answered, check, opened, Accepted, act}
 use Rattle.laws.specs.Tests.{All-left, All-right}
-use Rattle.laws.specs.WellFormed.{WellFormed, Passed}
+use Rattle.laws.specs.WellFormed.{WellFormed, fitting, Passed}
 use Rattle.laws.specs.Answers.{numbered, first-passed, passed-first}
 use Rattle.laws.specs.Asks.{answers-image, answers-own}
 use Rattle.laws.specs.Kept.{well-formed-after}
@@ -70,7 +72,7 @@ module _ (img : List ℕ) (c : Change) (handed : Handed c) (accepted : Accepted 
 
   -- the tables afterwards are the ones that the rule gives
   pub done-tables : act img c .answer .number ≡ 0 → tables (act img c .image) ≡ after (tables img) c
-  done-tables done = rw (done-leaves img c done) (tables-there (after (tables img) c) (done-well-formed done))
+  done-tables done = rw (done-leaves img c done) (tables-there (after (tables img) c) (fitting (done-well-formed done)))
 
   -- the image afterwards is accepted, whether the call was refused or done
   pub act-accepted : Accepted (act img c .image)
@@ -95,18 +97,18 @@ module _ (img : List ℕ) (c : Change) (handed : Handed c) (accepted : Accepted 
           rw (done-tables done) (by-rule (tables-well-formed img accepted) (done-passed img c done))
       go false e = rw (refused-keeps img c (eqb-false (act img c .answer .number) 0 e)) before
 
--- A call that writes, return by return, as code comes to them. First the answer a: refused by the image, by one of the call's own questions, or done. n is
--- what the check said, k what the call's questions said.
+-- A call that writes, return by return, as code comes to them. First the answer a: refused by the image, by one of the call's own questions, or done. o is
+-- what opening the image came to, k what the call's questions said.
 
-module _ (img : List ℕ) (n : ℕ) (checked : n ≡ check img) (c : Change) (a : Answer) where
-  pub act-image : a ≡ answer n 0 → (n ≡ 0 → ⊥) → a ≡ act img c .answer
+module _ (img : List ℕ) (o : Opened) (is : o ≡ opened img) (c : Change) (a : Answer) where
+  pub act-image : (n : ℕ) → o ≡ Refused n → a ≡ answer n 0 → a ≡ act img c .answer
   unfolding act
-  act-image e bad = e ∙ answers-image img n checked (λ t. questions t c) (λ t. made t c) bad
+  act-image n case e = e ∙ answers-image img o is (λ t. questions t c) (λ t. made t c) n case
 
-  module _ (ok : n ≡ 0) (lay : Layout) (there : lay ≡ layoutOf img) where
+  module _ (lay : Layout) (case : o ≡ With lay) where
     own : act img c .answer ≡ answered (firstNo (questions (tablesBy lay img) c)) (made (tablesBy lay img) c)
     unfolding act
-    own = answers-own img n checked (λ t. questions t c) (λ t. made t c) ok lay there
+    own = answers-own img o is (λ t. questions t c) (λ t. made t c) lay case
 
     module _ (k : ℕ) (asked : k ≡ firstNo (questions (tablesBy lay img) c)) where
       pub act-no : a ≡ answer k 0 → (k ≡ 0 → ⊥) → a ≡ act img c .answer
@@ -114,6 +116,10 @@ module _ (img : List ℕ) (n : ℕ) (checked : n ≡ check img) (c : Change) (a 
 
       pub act-done : (v : ℕ) → a ≡ answer 0 v → k ≡ 0 → v ≡ made (tablesBy lay img) c → a ≡ act img c .answer
       act-done v e done made-is = e ∙ sym (own ∙ rw (← asked, done, ← made-is))
+
+    -- where what was asked says that every question was answered yes
+    pub act-passed : (v : ℕ) → a ≡ answer 0 v → firstNo (questions (tablesBy lay img) c) ≡ 0 → v ≡ made (tablesBy lay img) c → a ≡ act img c .answer
+    act-passed = act-done (firstNo (questions (tablesBy lay img) c)) refl
 
 -- Then the image, by the answer. Both are what a call promises.
 

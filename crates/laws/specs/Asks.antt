@@ -1,53 +1,56 @@
 -- A call that asks, return by return: refused by the image, by one of its own questions, or done.
 use mathlib.Core.Bool.{false}
 use mathlib.Core.List.{List, _++_}
-use mathlib.Core.Logic.{inl, inr}
 use mathlib.Core.Path.{_≡_, refl, sym, ap, _∙_}
 use Prim.Native.Nat.{ℕ}
 use borrow.Author.Tests.{ne-eqb}
 use lib.Dec.{eqb}
 use Rattle.model.specs.declared.Answer.{Answer}
 use Rattle.model.specs.declared.Layout.{Layout}
-use Rattle.model.specs.Image.{Tables, layoutOf, tablesBy, tables}
+use Rattle.model.specs.declared.Opened.{Opened}
+use Rattle.model.specs.declared.Opened.the-variants.{With, Refused}
+use Rattle.model.specs.Image.{Tables, tablesBy, tables}
 use Rattle.model.specs.Calls.{Ask, told}
 use Rattle.model.specs.Calls.Ask.{checkImage}
-use Rattle.model.specs.Questions.{Question, firstNo, imageQuestions, askQuestions, answer, answered, check, ask}
-use Rattle.laws.specs.Tests.{eq-or-ne}
+use Rattle.model.specs.Questions.{Question, firstNo, imageQuestions, askQuestions, answer, answered, check, opened, ask}
 use Rattle.laws.specs.Answers.{first-left, first-right, asked-all}
+use Rattle.laws.specs.Opens.{refused-by, opened-with, layout-with}
 
--- Any call's questions after those of the image. n is what the check said.
-module _ (img : List ℕ) (n : ℕ) (checked : n ≡ check img) (qs : List Question) where
-  pub number-image : (n ≡ 0 → ⊥) → n ≡ firstNo (imageQuestions img ++ qs)
-  unfolding check imageQuestions
-  number-image h = first-left (imageQuestions img) qs n tt checked h
-
-  pub number-own : n ≡ 0 → firstNo qs ≡ firstNo (imageQuestions img ++ qs)
-  unfolding check imageQuestions
-  number-own h = first-right (imageQuestions img) qs n tt checked (firstNo qs) h refl
-
--- What any call answers whose own questions are qs and whose result is v, by the tables.
-module _ (img : List ℕ) (n : ℕ) (checked : n ≡ check img) (qs : Tables → List Question) (v : Tables → ℕ) where
+-- Any call's questions qs after those of the image, and its result v, by the tables. o is what opening the image came to.
+module _ (img : List ℕ) (o : Opened) (is : o ≡ opened img) (qs : Tables → List Question) (v : Tables → ℕ) where
   abbrev answers : Answer
   answers = answered (firstNo (imageQuestions img ++ qs (tables img))) (v (tables img))
 
-  pub answers-image : (n ≡ 0 → ⊥) → answer n 0 ≡ answers
-  answers-image h = rw (← number-image img n checked (qs (tables img)) h, ne-eqb n 0 h)
+  -- refused, the number is the image's
+  pub number-image : (n : ℕ) → o ≡ Refused n → n ≡ firstNo (imageQuestions img ++ qs (tables img))
+  unfolding check imageQuestions
+  number-image n case = let by = refused-by img o is n case in first-left (imageQuestions img) (qs (tables img)) n tt (by .0) (by .1)
 
-  pub answers-own : n ≡ 0 → (lay : Layout) → lay ≡ layoutOf img → answers ≡ answered (firstNo (qs (tablesBy lay img))) (v (tablesBy lay img))
-  answers-own ok lay there =
-      sym
-      (ap (λ (l : Layout). answered (firstNo (qs (tablesBy l img))) (v (tablesBy l img))) there
-      ∙ ap (λ (k : ℕ). answered k (v (tables img))) (number-own img n checked (qs (tables img)) ok))
+  pub answers-image : (n : ℕ) → o ≡ Refused n → answer n 0 ≡ answers
+  answers-image n case = rw (← number-image n case, ne-eqb n 0 (refused-by img o is n case .1))
 
-module _ (img : List ℕ) (n : ℕ) (checked : n ≡ check img) (q : Ask) (a : Answer) where
-  pub ask-image : (n ≡ 0 → ⊥) → a ≡ answer n 0 → a ≡ ask img q
+  -- opened, it is that of the call's own questions by the layout
+  module _ (lay : Layout) (case : o ≡ With lay) where
+    pub number-own : firstNo (qs (tablesBy lay img)) ≡ firstNo (imageQuestions img ++ qs (tables img))
+    unfolding check imageQuestions
+    number-own =
+        let with = opened-with img o is lay case in
+        rw (with .1) (first-right (imageQuestions img) (qs (tables img)) (check img) tt refl (firstNo (qs (tables img))) (with .0) refl)
+
+    pub answers-own : answers ≡ answered (firstNo (qs (tablesBy lay img))) (v (tablesBy lay img))
+    answers-own =
+        ap (λ (k : ℕ). answered k (v (tables img))) (sym number-own)
+        ∙ ap (λ (l : Layout). answered (firstNo (qs (tablesBy lay img))) (v (tablesBy l img))) (sym (layout-with img o is lay case))
+
+module _ (img : List ℕ) (o : Opened) (is : o ≡ opened img) (q : Ask) (a : Answer) where
+  pub ask-image : (n : ℕ) → o ≡ Refused n → a ≡ answer n 0 → a ≡ ask img q
   unfolding ask
-  ask-image h e = e ∙ answers-image img n checked (λ t. askQuestions t q) (λ t. told t q) h
+  ask-image n case e = e ∙ answers-image img o is (λ t. askQuestions t q) (λ t. told t q) n case
 
-  module _ (ok : n ≡ 0) (lay : Layout) (there : lay ≡ layoutOf img) where
+  module _ (lay : Layout) (case : o ≡ With lay) where
     own : ask img q ≡ answered (firstNo (askQuestions (tablesBy lay img) q)) (told (tablesBy lay img) q)
     unfolding ask
-    own = answers-own img n checked (λ t. askQuestions t q) (λ t. told t q) ok lay there
+    own = answers-own img o is (λ t. askQuestions t q) (λ t. told t q) lay case
 
     pub ask-no : (k : ℕ) → eqb k 0 ≡ false → k ≡ firstNo (askQuestions (tablesBy lay img) q) → a ≡ answer k 0 → a ≡ ask img q
     ask-no k some h e = e ∙ sym (own ∙ rw (← h, some))
@@ -56,10 +59,7 @@ module _ (img : List ℕ) (n : ℕ) (checked : n ≡ check img) (q : Ask) (a : A
     ask-done v h f e = e ∙ sym (own ∙ rw (← h, ← f))
 
 -- the check asks nothing more than the questions of the image
-pub check-is-asked : (img : List ℕ) (n : ℕ) → n ≡ check img → answer n 0 ≡ ask img checkImage
-unfolding askQuestions told
-check-is-asked img n checked =
-    elim (eq-or-ne n 0) [
-      | inl z ↦ ask-done img n checked checkImage (answer n 0) z (layoutOf img) refl 0 asked-all refl (ap (λ (k : ℕ). answer k 0) z)
-      | inr h ↦ ask-image img n checked checkImage (answer n 0) h refl
-    ]
+module _ (img : List ℕ) (o : Opened) (is : o ≡ opened img) (a : Answer) where
+  pub check-done : (lay : Layout) → o ≡ With lay → a ≡ answer 0 0 → a ≡ ask img checkImage
+  unfolding askQuestions told
+  check-done lay case e = ask-done img o is checkImage a lay case 0 asked-all refl e

@@ -91,7 +91,7 @@ pub field-out : (k : ℕ) (s : List ℕ) (at : ℕ) → length s < at + k → fi
 unfolding fieldAt
 field-out k s at h = rw (lt-leb (at + k) (length s) h)
 
-field-empty : (s : List ℕ) (at : ℕ) → fieldAt zero s at ≡ 0
+pub field-empty : (s : List ℕ) (at : ℕ) → fieldAt zero s at ≡ 0
 unfolding fieldAt
 field-empty s at = go (leb (at + zero) (length s))
   where

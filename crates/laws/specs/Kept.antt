@@ -18,8 +18,8 @@ use Rattle.model.specs.Lists.{All, every, everyNumbered, isThere}
 use Rattle.model.specs.Sorted.{find, put, cut, ascending}
 use Rattle.model.specs.Tree.{inTree}
 use Rattle.model.specs.WhoAndWhat.{custodian, everything, has, within}
-use Rattle.model.specs.Image.{Tables, widthIn, subjectFormat, grantFormat, lineFormat, itemFormat, subjectRow, grantRow, lineRow, itemRow, noSubject, noItem, subjectIn, parentIn, privilegesIn, subjectUsed, itemIn, itemUsed, isList, noneOrList, subjectRules, grantRules, lineRules, itemRules, grantKey, lineKey, blockOf, subjectsHold, itemsHold, linesHold, grantsHold}
-use Rattle.model.specs.Calls.{Change, Handed, withSubjects, withGrants, withLines, withItems, setItem, withList, withOwner, stored, after}
+use Rattle.model.specs.Image.{Tables, widthIn, subjectFormat, grantFormat, lineFormat, itemFormat, subjectRow, grantRow, lineRow, itemRow, noSubject, noItem, subjectIn, parentIn, privilegesIn, subjectUsed, itemIn, itemUsed, isList, noneOrList, subjectRules, grantRules, lineRules, itemRules, grantKey, lineKey, blockOf, subjectsHold, itemsHold, linesHold, grantsHold, withList, withOwner}
+use Rattle.model.specs.Calls.{Change, Handed, withSubjects, withGrants, withLines, withItems, setItem, stored, after}
 use Rattle.model.specs.Calls.Change.{defineSubject, setGrant, removeGrant, setLine, removeLine, createItem, bind, handOver}
 use Rattle.model.specs.Questions.{questions}
 use Rattle.laws.specs.Tests.{and-i, and-l, and-r, or-l, or-r, or-cases, two, eq-or-ne, every-at, every-map, every-append, every-set, every-All, All-every, All-map, All-both, All-append, All-set, All-at}

@@ -6,7 +6,7 @@ use native.Mathlib.Omega.{arith}
 use lib.Dec.{T, leb, leb→le, eqb→eq}
 use lib.ListN.{length}
 use Rattle.model.specs.Lists.{zeros}
-use Rattle.model.specs.Image.{widthOf, layoutOf, subjectFormat, grantFormat, lineFormat, itemFormat, headerSize, tableLies, unused, layoutRules, unusedRules}
+use Rattle.model.specs.Image.{shortestImage, longestImage, widthOf, layoutOf, subjectFormat, grantFormat, lineFormat, itemFormat, headerSize, tableLies, unused, headerRules, tableRules, layoutRules, unusedRules}
 use Rattle.model.specs.Questions.{imageQuestions, check}
 use Rattle.laws.specs.Tests.{yes-all, and-l, and-r}
 use Rattle.laws.specs.WellFormed.{Passed}
@@ -16,8 +16,8 @@ use Rattle.laws.specs.Answers.{image-passed}
 
 -- questions 1, 2 and 7
 pub record Laid (img : List ℕ) : Type 0 where
-  pub long : 36 ≤ length img
-  pub short : length img ≤ 65536
+  pub long : shortestImage ≤ length img
+  pub short : length img ≤ longestImage
   pub total : layoutOf img .items .end ≡ length img
   pub first : headerSize ≡ layoutOf img .subjects .start
   pub custodian-used : 1 ≤ layoutOf img .subjects .used
@@ -31,21 +31,23 @@ pub record Laid (img : List ℕ) : Type 0 where
   pub items-blank : T (zeros (unused itemFormat (layoutOf img .items) img))
 
 pub laid : (img : List ℕ) → check img ≡ 0 → Laid img
-unfolding imageQuestions layoutRules unusedRules
+unfolding imageQuestions layoutRules headerRules tableRules unusedRules
 laid img e =
     let passed : Passed (imageQuestions img) = image-passed img e in
-    let lay = yes-all (layoutRules (layoutOf img) img) (passed .1 .0) in
+    let both = yes-all (layoutRules (layoutOf img) img) (passed .1 .0) in
+    let header = yes-all (headerRules (layoutOf img) img) (both .0) in
+    let lie = yes-all (tableRules (layoutOf img)) (both .1 .0) in
     let blank = yes-all (unusedRules (layoutOf img) img) (passed .1 .1 .1 .1 .1 .1 .0) in
     record {
-      long = leb→le 36 (length img) (and-l (leb 36 (length img)) (leb (length img) 65536) (passed .0));
-      short = leb→le (length img) 65536 (and-r (leb 36 (length img)) (leb (length img) 65536) (passed .0));
-      total = eqb→eq _ _ (lay .0);
-      first = sym (eqb→eq _ _ (lay .1 .0));
-      subjects-lie = lay .1 .1 .0;
-      grants-lie = lay .1 .1 .1 .0;
-      lines-lie = lay .1 .1 .1 .1 .0;
-      items-lie = lay .1 .1 .1 .1 .1 .0;
-      custodian-used = leb→le _ _ (lay .1 .1 .1 .1 .1 .1 .0);
+      long = leb→le shortestImage (length img) (and-l (leb shortestImage (length img)) (leb (length img) longestImage) (passed .0));
+      short = leb→le (length img) longestImage (and-r (leb shortestImage (length img)) (leb (length img) longestImage) (passed .0));
+      total = eqb→eq _ _ (header .0);
+      first = sym (eqb→eq _ _ (header .1 .0));
+      subjects-lie = lie .0;
+      grants-lie = lie .1 .0;
+      lines-lie = lie .1 .1 .0;
+      items-lie = lie .1 .1 .1 .0;
+      custodian-used = leb→le _ _ (lie .1 .1 .1 .1 .0);
       subjects-blank = blank .0;
       grants-blank = blank .1 .0;
       lines-blank = blank .1 .1 .0;

@@ -7,7 +7,9 @@ pub mod Tree
 pub mod Numbered
 pub mod WellFormed
 pub mod Answers
--- Then bytes and tables, over any width and any format: an accepted image is the bytes of its tables, well-formed tables survive the trip.
+pub mod Cases
+pub mod Opens
+-- Then bytes and tables, over any width and any format: an accepted image is the bytes of its tables, fitting tables survive the trip.
 pub mod Fields
 pub mod Rows
 pub mod Blocks

@@ -7,7 +7,7 @@ use mathlib.Core.Logic.{_⊎_, inl, inr, _≢_}
 use mathlib.Core.Option.{Option, none, some, Option·none-ne-some}
 use mathlib.Core.Path.{_≡_, refl, sym, ap, _∙_}
 use Prim.Native.Nat.{ℕ, suc, _<_, _≤_}
-use native.Mathlib.Nat.{suc-le-suc-iff, le-of-suc-le-suc, not-suc-le-zero}
+use native.Mathlib.Nat.{suc-le-suc-iff}
 use native.Mathlib.Omega.{arith}
 use borrow.Author.Tests.{lt-ltb, le-ltb, eq-eqb, ne-eqb}
 use lib.Dec.{T, ltb, ltb→lt, leb·suc-suc}
@@ -54,9 +54,6 @@ order (x ∷ xs) (y ∷ ys) = go (lt-eq-gt x y) (order xs ys)
     go (inr (inl h)) o = rw h (tails o)
     go (inr (inr h)) o = Order.higher (rw (lt-ltb y x h)) (rw (le-ltb x y (omega arith), ne-eqb x y (omega arith))) (rw (ne-eqb x y (omega arith)))
 
-pub same-eq : (k l : List ℕ) → same k l ≡ true → k ≡ l
-same-eq k l e = elim (order k l) [ lower a b c ↦ cc | equal a b c ↦ a | higher a b c ↦ cc ]
-
 pub same-or-not : (k l : List ℕ) → (k ≡ l) ⊎ (k ≢ l)
 same-or-not k l =
     elim (order k l) [
@@ -67,9 +64,6 @@ same-or-not k l =
 
 pub before-not-after : (k l : List ℕ) → before k l ≡ true → before l k ≡ false
 before-not-after k l e = elim (order k l) [ lower a b c ↦ b | equal a b c ↦ cc | higher a b c ↦ cc ]
-
-pub before-not-same : (k l : List ℕ) → before k l ≡ true → same k l ≡ false
-before-not-same k l e = elim (order k l) [ lower a b c ↦ c | equal a b c ↦ cc | higher a b c ↦ c ]
 
 before-heads : (x y : ℕ) (xs ys : List ℕ) → before (x ∷ xs) (y ∷ ys) ≡ true → (x < y) ⊎ ((x ≡ y) × (before xs ys ≡ true))
 before-heads x y xs ys e = go (lt-eq-gt x y)
@@ -161,9 +155,6 @@ module _ {A : Type 0} (key : A → List ℕ) where
           | higher e f g ↦ rw (f, g) tt
         ]
 
-    pub found-holds : (k : List ℕ) (xs : List A) (r : A) → All P xs → find key k xs ≡ some r → P r × (key r ≡ k)
-    found-holds k xs r a e = rw e at (All-find k xs a)
-
   -- Putting and cutting keep a table ascending.
 
   pub ascending-put : (r : A) (xs : List A) → T (ascending key xs) → T (ascending key (put key r xs))
@@ -201,16 +192,6 @@ module _ {A : Type 0} (key : A → List ℕ) where
   find-above k [] a = refl
   find-above k (x ∷ xs) a = find-stops k x xs (a .0)
 
-  pub find-put-same : (r : A) (xs : List A) → find key (key r) (put key r xs) ≡ some r
-  unfolding find put
-  find-put-same r [] = rw (before-self (key r), same-self (key r))
-  find-put-same r (x ∷ xs) =
-      elim (order (key x) (key r)) [
-        | lower e f g ↦ rw (e, find, e) (find-put-same r xs)
-        | equal e f g ↦ rw (f, g, before-self (key r), same-self (key r))
-        | higher e f g ↦ rw (f, g, before-self (key r), same-self (key r))
-      ]
-
   pub find-put-other : (r : A) (xs : List A) (k : List ℕ) → key r ≢ k → find key k (put key r xs) ≡ find key k xs
   unfolding find put
   find-put-other r [] k d = elim (order (key r) k) [ lower a b c ↦ rw a | equal a b c ↦ absurd (d a) | higher a b c ↦ rw (b, c) ]
@@ -223,16 +204,6 @@ module _ {A : Type 0} (key : A → List ℕ) where
           | equal a b c ↦ absurd (d a)
           | higher a b c ↦ rw (b, c) (sym (find-stops k x xs (before-trans k (key r) (key x) a e)))
         ])
-      ]
-
-  pub find-cut-same : (k : List ℕ) (xs : List A) → T (ascending key xs) → find key k (cut key k xs) ≡ none
-  unfolding find cut
-  find-cut-same k [] t = refl
-  find-cut-same k (x ∷ xs) t =
-      elim (order (key x) k) [
-        | lower e f g ↦ rw (e, find, e) (find-cut-same k xs (ascending-tail x xs t))
-        | equal e f g ↦ rw (f, g) (find-above k xs (rw e at (ascending-above x xs t)))
-        | higher e f g ↦ rw (f, g) (find-stops k x xs e)
       ]
 
   pub find-cut-other : (k : List ℕ) (xs : List A) (l : List ℕ) → T (ascending key xs) → k ≢ l → find key l (cut key k xs) ≡ find key l xs
@@ -313,20 +284,6 @@ module _ {A : Type 0} (key : A → List ℕ) where
         | lower e f g ↦ rw e (found-at k xs r d (rw e at h))
         | equal e f g ↦ rw f (cc (rw (f, g) at h))
         | higher e f g ↦ cc (rw (f, g) at h)
-      ]
-
-  -- and a row at the place that has the key is found
-  pub find-at : (k : List ℕ) (xs : List A) (d : A)
-      → place key k xs < length xs
-      → key (getD xs (place key k xs) d) ≡ k
-      → find key k xs ≡ some (getD xs (place key k xs) d)
-  unfolding find place
-  find-at k [] d h j = absurd (not-suc-le-zero h)
-  find-at k (x ∷ xs) d h j =
-      elim (order (key x) k) [
-        | lower e f g ↦ rw e (find-at k xs d (le-of-suc-le-suc (rw e at h)) (rw e at j))
-        | equal e f g ↦ rw (f, g)
-        | higher e f g ↦ cc
       ]
 
   -- so the search is a look at the place

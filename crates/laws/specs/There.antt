@@ -1,4 +1,4 @@
--- Well-formed tables survive the trip through bytes, and their bytes are an accepted image.
+-- Fitting tables survive the trip through bytes. The bytes of well-formed tables are an accepted image.
 use mathlib.Core.List.{List, [], _∷_, _++_}
 use mathlib.Core.Path.{_≡_, refl, sym, ap, _∙_}
 use Prim.Native.Nat.{ℕ, _+_, _*_, _^_, _<_, _≤_}
@@ -10,10 +10,10 @@ use lib.ListN.{length, getD, drop, replicate, length-append}
 use lib.Seq.{drop-at, drop-drop}
 use Rattle.model.specs.declared.Layout.{Layout}
 use Rattle.model.specs.Lists.{All, Bytes, allOf}
-use Rattle.model.specs.Image.{Tables, Format, Block, size, widthIn, layoutOf, tablesBy, tables, subjectFormat, grantFormat, lineFormat, itemFormat, headerWidths, headerSize, fieldsAt, rowBytes, headerOf, bodyOf, blocks, blockOf, encode, layoutRules, unusedRules}
+use Rattle.model.specs.Image.{shortestImage, longestImage, Tables, Format, Block, size, widthIn, layoutOf, tablesBy, tables, subjectFormat, grantFormat, lineFormat, itemFormat, headerWidths, headerSize, fieldsAt, rowBytes, headerOf, bodyOf, blocks, blockOf, encode, headerRules, tableRules, layoutRules, unusedRules}
 use Rattle.model.specs.Questions.{imageQuestions, check, Accepted}
 use Rattle.laws.specs.Tests.{_and_, true-T, and-i, all-yes, All-append}
-use Rattle.laws.specs.WellFormed.{WellFormed, Passed, Fit, extents}
+use Rattle.laws.specs.WellFormed.{Fitting, WellFormed, fitting, Passed, Fit, extents}
 use Rattle.laws.specs.Fields.{fields-there, row-length, row-bytes}
 use Rattle.laws.specs.Rows.{Lawful, subject-lawful, grant-lawful, line-lawful, item-lawful}
 use Rattle.laws.specs.Blocks.{Holds, holds-from, block-used, block-extent, block-length, block-bytes}
@@ -72,7 +72,8 @@ layout-from img = refl
 next-block : (img : List ℕ) (at : ℕ) (b : Block) (rest : List ℕ) → Sized b → drop at img ≡ b .bytes ++ rest → drop (at + b .extent) img ≡ rest
 next-block img at b rest s e = sym (drop-drop (b .extent) at img) ∙ ap (drop (b .extent)) e ∙ drop-at (b .bytes) rest (b .extent) (s .long)
 
-module _ (t : Tables) (good : WellFormed t) where
+-- The bytes of fitting tables. The layout and the tables are read from them again, and they hold the rules that are not about rows.
+module _ (t : Tables) (good : Fitting t) where
   abbrev w : ℕ
   w = widthIn t
 
@@ -126,23 +127,23 @@ module _ (t : Tables) (good : WellFormed t) where
 
   subjects-hold : Holds (subjectFormat w) (t .room .subjects) (t .subjects) (lay .subjects) (encode t)
   subjects-hold =
-      holds-from (subjectFormat w) (subject-lawful w) (t .room .subjects) (t .subjects) (good .subjects-room) (encode t) headerSize (bodyOf (blocks-from 1)) body-from
-      (good .subjects-fit)
+      holds-from (subjectFormat w) (subject-lawful w) (t .room .subjects) (t .subjects) (good .subjects-room)
+      (encode t) headerSize (bodyOf (blocks-from 1)) body-from (good .subjects-fit)
 
   grants-hold : Holds (grantFormat w) (t .room .grants) (t .grants) (lay .grants) (encode t)
   grants-hold =
-      holds-from (grantFormat w) (grant-lawful w) (t .room .grants) (t .grants) (good .grants-room) (encode t) (lay .grants .start) (bodyOf (blocks-from 2)) grants-from
-      (good .grants-fit)
+      holds-from (grantFormat w) (grant-lawful w) (t .room .grants) (t .grants) (good .grants-room)
+      (encode t) (lay .grants .start) (bodyOf (blocks-from 2)) grants-from (good .grants-fit)
 
   lines-hold : Holds (lineFormat w) (t .room .lines) (t .lines) (lay .lines) (encode t)
   lines-hold =
-      holds-from (lineFormat w) (line-lawful w) (t .room .lines) (t .lines) (good .lines-room) (encode t) (lay .lines .start) (bodyOf (blocks-from 3)) lines-from
-      (good .lines-fit)
+      holds-from (lineFormat w) (line-lawful w) (t .room .lines) (t .lines) (good .lines-room)
+      (encode t) (lay .lines .start) (bodyOf (blocks-from 3)) lines-from (good .lines-fit)
 
   items-hold : Holds itemFormat (t .room .items) (t .items) (lay .items) (encode t)
   items-hold =
-      holds-from itemFormat item-lawful (t .room .items) (t .items) (good .items-room) (encode t) (lay .items .start) (bodyOf (blocks-from 4)) items-from
-      (good .items-fit)
+      holds-from itemFormat item-lawful (t .room .items) (t .items) (good .items-room)
+      (encode t) (lay .items .start) (bodyOf (blocks-from 4)) items-from (good .items-fit)
 
   tables-by : tablesBy lay (encode t) ≡ t
   unfolding tablesBy
@@ -166,18 +167,25 @@ module _ (t : Tables) (good : WellFormed t) where
   unfolding encode front
   encode-length = rw (length-append front (bodyOf (blocks t)), body-length (blocks t) sizes) (ap (λ (n : ℕ). n + extents (blocks t)) front-length)
 
-  layout-right : T (allOf (layoutRules lay (encode t)))
-  unfolding layoutRules
-  layout-right =
-      all-yes (layoutRules lay (encode t))
-      (true-T _ (eq-eqb (lay .items .end) (length (encode t)) (total-end ∙ sym encode-length))
-      and tt
-      and subjects-hold .lies-right
+  header-right : T (allOf (headerRules lay (encode t)))
+  unfolding headerRules
+  header-right =
+      all-yes (headerRules lay (encode t)) (true-T _ (eq-eqb (lay .items .end) (length (encode t)) (total-end ∙ sym encode-length)) and tt and tt)
+
+  tables-right : 1 ≤ length (t .subjects) → T (allOf (tableRules lay))
+  unfolding tableRules
+  tables-right custodian-there =
+      all-yes (tableRules lay)
+      (subjects-hold .lies-right
       and grants-hold .lies-right
       and lines-hold .lies-right
       and items-hold .lies-right
-      and le→leb 1 (lay .subjects .used) (rw (block-used (subjectFormat w) (t .room .subjects) (t .subjects)) (good .custodian-there))
+      and le→leb 1 (lay .subjects .used) (rw (block-used (subjectFormat w) (t .room .subjects) (t .subjects)) custodian-there)
       and tt)
+
+  layout-right : 1 ≤ length (t .subjects) → T (allOf (layoutRules lay (encode t)))
+  unfolding layoutRules
+  layout-right custodian-there = all-yes (layoutRules lay (encode t)) (header-right and tables-right custodian-there and tt)
 
   unused-right : T (allOf (unusedRules lay (encode t)))
   unfolding unusedRules
@@ -188,23 +196,32 @@ module _ (t : Tables) (good : WellFormed t) where
   encode-bytes : Bytes (encode t)
   unfolding encode
   encode-bytes =
-      All-append (λ x. x < 256) (rowBytes headerWidths (headerOf headerSize (blocks t))) (bodyOf (blocks t)) (row-bytes headerWidths (headerOf headerSize (blocks t)))
+      All-append (λ x. x < 256) (rowBytes headerWidths (headerOf headerSize (blocks t))) (bodyOf (blocks t))
+      (row-bytes headerWidths (headerOf headerSize (blocks t)))
       (body-bytes (blocks t) sizes)
+
+-- The bytes of well-formed tables pass every question of the check.
+module _ (t : Tables) (good : WellFormed t) where
+  fits : Fitting t
+  fits = fitting good
 
   questions-passed : Passed (imageQuestions (encode t))
   unfolding imageQuestions
   questions-passed =
-      and-i (leb 36 (length (encode t))) (leb (length (encode t)) 65536)
-      (le→leb 36 (length (encode t)) (omega (arith, encode-length)))
-      (le→leb (length (encode t)) 65536 (omega (arith, encode-length, good .short)))
-      and rw layout-there layout-right
-      and rw tables-there (good .subjects-hold)
-      and rw tables-there (good .items-hold)
-      and rw tables-there (good .lines-hold)
-      and rw tables-there (good .grants-hold)
-      and rw layout-there unused-right
+      let there : tables (encode t) ≡ t = tables-there t fits in
+      let laid : layoutOf (encode t) ≡ lay t fits = layout-there t fits in
+      let long : length (encode t) ≡ headerSize + extents (blocks t) = encode-length t fits in
+      and-i (leb shortestImage (length (encode t))) (leb (length (encode t)) longestImage)
+      (le→leb shortestImage (length (encode t)) (omega arith))
+      (le→leb (length (encode t)) longestImage (omega arith))
+      and rw laid (layout-right t fits (good .custodian-there))
+      and rw there (good .subjects-hold)
+      and rw there (good .items-hold)
+      and rw there (good .lines-hold)
+      and rw there (good .grants-hold)
+      and rw laid (unused-right t fits)
       and tt
 
   pub encode-accepted : Accepted (encode t)
   unfolding check
-  encode-accepted = record { bytes = encode-bytes; checked = first-passed (imageQuestions (encode t)) questions-passed }
+  encode-accepted = record { bytes = encode-bytes t fits; checked = first-passed (imageQuestions (encode t)) questions-passed }

@@ -1,20 +1,20 @@
 -- Laws of climbing, for any step `up`: of being in a tree, and of the group search. Any count of steps from the number's own on gives the same, so
--- both have an equation without a count; both read the step only up to the number; and a tree within a tree is part of it.
+-- both have an equation without a count; and both read the step only up to the number.
 use mathlib.Core.Bool.{false, _&&_, _||_, cond, or-false}
 use mathlib.Core.List.{List}
-use mathlib.Core.Logic.{_⊎_, inl, inr}
+use mathlib.Core.Logic.{inl, inr}
 use mathlib.Core.Option.{none}
 use mathlib.Core.Path.{_≡_, refl, sym, _∙_}
 use Prim.Native.Nat.{ℕ, zero, suc, _<_, _≤_}
 use native.Mathlib.Omega.{arith}
 use borrow.Author.Tests.{ltb-true, le-ltb, ne-eqb}
-use lib.Dec.{T, eqb, ltb, eqb→eq}
+use lib.Dec.{eqb, ltb}
 use Rattle.model.specs.declared.LineRow.{LineRow}
 use Rattle.model.specs.Lists.{orElse}
 use Rattle.model.specs.Tree.{climbs, inTree}
 use Rattle.model.specs.Permission.{lineIn, groupWithin, groupLine}
 use Rattle.model.specs.Image.{groupKind}
-use Rattle.laws.specs.Tests.{two, or-cases, or-r, and-i, and-l, and-r}
+use Rattle.laws.specs.Tests.{two}
 
 module _ (up : ℕ → ℕ) where
   -- The tree of h.
@@ -51,26 +51,9 @@ module _ (up : ℕ → ℕ) where
   unfolding inTree
   tree-below h s l = climbs-below h s s l
 
-  climbs-within : (g h n s : ℕ) → T (inTree up g h) → T (climbs n up h s) → T (inTree up g s)
-  unfolding climbs
-  climbs-within g h zero s t c = rw (eqb→eq s h c) t
-  climbs-within g h (suc n) s t c = go (or-cases (eqb s h) (ltb (up s) s && climbs n up h (up s)) c) (climbs-within g h n (up s) t)
-    where
-      go : T (eqb s h) ⊎ T (ltb (up s) s && climbs n up h (up s)) → (T (climbs n up h (up s)) → T (inTree up g (up s))) → T (inTree up g s)
-      go (inl e) ih = rw (eqb→eq s h e) t
-      go (inr e) ih =
-          let low : T (ltb (up s) s) = and-l (ltb (up s) s) (climbs n up h (up s)) e in
-          let above : T (inTree up g (up s)) = ih (and-r (ltb (up s) s) (climbs n up h (up s)) e) in
-          rw tree-up (or-r (eqb s g) (ltb (up s) s && inTree up g (up s)) (and-i (ltb (up s) s) (inTree up g (up s)) low above))
-
-  -- with h in the tree of g, all of the tree of h is
-  pub tree-within : (g h s : ℕ) → T (inTree up g h) → T (inTree up h s) → T (inTree up g s)
-  unfolding inTree
-  tree-within g h s t c = climbs-within g h s s t c
-
   -- The group search.
 
-  pub group-enough : (lines : List LineRow) (a m n s : ℕ) → s ≤ m → s ≤ n → groupWithin m up lines a s ≡ groupWithin n up lines a s
+  pub group-enough : (lines : List LineRow) (a m n s : ℕ) → s ≤ m → s ≤ n → groupWithin m up lines s a ≡ groupWithin n up lines s a
   unfolding groupWithin
   group-enough lines a zero zero s p q = refl
   group-enough lines a zero (suc n) s p q = rw (le-ltb (up s) s (omega arith))
@@ -82,7 +65,7 @@ module _ (up : ℕ → ℕ) where
       ]
 
   pub group-up : (lines : List LineRow) (a s : ℕ)
-      → groupLine up lines a s ≡ cond (ltb (up s) s) (orElse (lineIn lines a groupKind (up s)) (groupLine up lines a (up s))) none
+      → groupLine up lines s a ≡ cond (ltb (up s) s) (orElse (lineIn lines a groupKind (up s)) (groupLine up lines (up s) a)) none
   unfolding groupWithin groupLine
   group-up lines a s =
       group-enough lines a s (suc s) s (omega arith) (omega arith)
@@ -106,13 +89,13 @@ module _ (up vp : ℕ → ℕ) (n : ℕ) (agree : (s : ℕ) → s < n → up s �
 
   -- the group search, in lists of lines that agree on list a
   module _ (lines more : List LineRow) (a : ℕ) (lines-agree : (k s : ℕ) → lineIn lines a k s ≡ lineIn more a k s) where
-    group-within-same : (m s : ℕ) → s < n → groupWithin m up lines a s ≡ groupWithin m vp more a s
+    group-within-same : (m s : ℕ) → s < n → groupWithin m up lines s a ≡ groupWithin m vp more s a
     unfolding groupWithin
     group-within-same zero s l = refl
     group-within-same (suc m) s l =
         rw (agree s l, lines-agree groupKind (vp s))
         (elim (two (ltb (vp s) s)) [ inl e ↦ rw (group-within-same m (vp s) (omega (arith, ltb-true (vp s) s e))) | inr e ↦ rw e ])
 
-    pub group-same : (s : ℕ) → s < n → groupLine up lines a s ≡ groupLine vp more a s
+    pub group-same : (s : ℕ) → s < n → groupLine up lines s a ≡ groupLine vp more s a
     unfolding groupLine
     group-same s l = group-within-same s s l

@@ -1,11 +1,12 @@
--- Well-formed tables: what questions 2 to 6 ask of tables, and that every number fits its field. An accepted image has such tables, and the bytes of
--- such tables are an accepted image.
+-- Fitting tables: there is room for their rows, their bytes are no more than an image may have, and every number fits its field.
+-- Well-formed tables hold besides what questions 2 to 6 ask of tables. An accepted image has such tables, and the bytes of such tables are
+-- an accepted image.
 use mathlib.Core.List.{List, [], _∷_}
 use Prim.Native.Nat.{ℕ, _+_, _^_, _<_, _≤_}
 use lib.ListN.{length}
 use lib.Dec.{T}
 use Rattle.model.specs.Lists.{All}
-use Rattle.model.specs.Image.{Format, Tables, Block, widthIn, subjectFormat, grantFormat, lineFormat, itemFormat, headerSize, blocks, subjectsHold, itemsHold, linesHold, grantsHold}
+use Rattle.model.specs.Image.{longestImage, Format, Tables, Block, widthIn, subjectFormat, grantFormat, lineFormat, itemFormat, headerSize, blocks, subjectsHold, itemsHold, linesHold, grantsHold}
 use Rattle.model.specs.Questions.{Question}
 
 -- each number is below 256 to the power of its field's bytes
@@ -22,13 +23,24 @@ abbrev pub extents : List Block → ℕ
 extents [] = 0
 extents (b ∷ bs) = b .extent + extents bs
 
+pub record Fitting (t : Tables) : Type 0 where
+  pub subjects-room : length (t .subjects) ≤ t .room .subjects
+  pub grants-room : length (t .grants) ≤ t .room .grants
+  pub lines-room : length (t .lines) ≤ t .room .lines
+  pub items-room : length (t .items) ≤ t .room .items
+  pub short : headerSize + extents (blocks t) ≤ longestImage
+  pub subjects-fit : All (Fits (subjectFormat (widthIn t))) (t .subjects)
+  pub grants-fit : All (Fits (grantFormat (widthIn t))) (t .grants)
+  pub lines-fit : All (Fits (lineFormat (widthIn t))) (t .lines)
+  pub items-fit : All (Fits itemFormat) (t .items)
+
 pub record WellFormed (t : Tables) : Type 0 where
   pub custodian-there : 1 ≤ length (t .subjects)
   pub subjects-room : length (t .subjects) ≤ t .room .subjects
   pub grants-room : length (t .grants) ≤ t .room .grants
   pub lines-room : length (t .lines) ≤ t .room .lines
   pub items-room : length (t .items) ≤ t .room .items
-  pub short : headerSize + extents (blocks t) ≤ 65536
+  pub short : headerSize + extents (blocks t) ≤ longestImage
   pub subjects-fit : All (Fits (subjectFormat (widthIn t))) (t .subjects)
   pub grants-fit : All (Fits (grantFormat (widthIn t))) (t .grants)
   pub lines-fit : All (Fits (lineFormat (widthIn t))) (t .lines)
@@ -37,6 +49,9 @@ pub record WellFormed (t : Tables) : Type 0 where
   pub items-hold : T (itemsHold t)
   pub lines-hold : T (linesHold t)
   pub grants-hold : T (grantsHold t)
+
+pub fitting : {t : Tables} → WellFormed t → Fitting t
+fitting w = search w
 
 -- every question of a list is answered yes
 abbrev pub Passed : List Question → Type 0

@@ -9,7 +9,7 @@ use borrow.Author.Tests.{ltb-false, ne-eqb}
 use lib.Bits.{bitAnd, and-high, and-zero-r}
 use lib.Dec.{eqb, ltb, lit<}
 use lib.Pow.{pow-pos, pow-mono}
-use Rattle.model.specs.WhoAndWhat.{has, maskOf, neededPosition}
+use Rattle.model.specs.WhoAndWhat.{has, maskOf, noPosition, neededPosition}
 
 power : (n : ℕ) → 2 ^ (1 + n) - 2 ^ n ≡ 2 ^ n
 power n = rw one-add (omega arith)
@@ -31,7 +31,7 @@ meets n p m h e = rw e (go (ltb n 32) refl)
     go false q = rw (and-zero-r, div-eq-of-lt (lt-of-lt-of-le h (pow-mono (ltb-false n 32 q))))
 
 -- past the last call that question 15 asks a position of
-pub no-position : (n : ℕ) → 4 ≤ n → 32 ≡ neededPosition n
+pub no-position : (n : ℕ) → 4 ≤ n → noPosition ≡ neededPosition n
 no-position zero h = absurd (omega arith)
 no-position (suc zero) h = absurd (omega arith)
 no-position (suc (suc zero)) h = absurd (omega arith)

@@ -11,7 +11,7 @@ use Rattle.model.specs.declared.ItemRow.{ItemRow}
 use Rattle.model.specs.Lists.{select, All}
 use Rattle.model.specs.Sorted.{put, cut}
 use Rattle.model.specs.WhoAndWhat.{custodian, editList, has, _∩_}
-use Rattle.model.specs.Image.{Tables, subjectRow, grantRow, lineRow, itemRow, grantKey, lineKey, privilegesIn, itemIn, subjectUsed}
+use Rattle.model.specs.Image.{Tables, subjectRow, grantRow, lineRow, itemRow, withList, withOwner, grantKey, lineKey, privilegesIn, itemIn, subjectUsed}
 use Rattle.model.specs.Permission.{operationSet, permissionSet}
 
 -- The calls that only ask and whose result is decided.
@@ -77,7 +77,7 @@ rowsBefore a lines = select (λ l. ltb (l .list .0) a) lines
 
 -- Editor search: s may be named as an editor of list a.
 abbrev pub isEditor : Tables → ℕ → ℕ → Bool
-isEditor t a s = subjectUsed (t .subjects) s && not (eqb s custodian) && has editList (permissionSet t s 0 a)
+isEditor t s a = subjectUsed (t .subjects) s && not (eqb s custodian) && has editList (permissionSet t s 0 a)
 
 -- The result of a call that asks.
 unfoldable pub told : Tables → Ask → ℕ
@@ -104,13 +104,6 @@ withItems t rows = record { subjects = t .subjects; grants = t .grants; lines = 
 abbrev pub setItem : List ItemRow → ℕ → ItemRow → List ItemRow
 setItem rows zero r = rows
 setItem rows (suc n) r = set rows n r
-
--- an item with another list, and with another owner
-abbrev pub withList : ItemRow → ℕ → ItemRow
-withList i a = itemRow (i .owner .0) a (i .flags)
-
-abbrev pub withOwner : ItemRow → ℕ → ItemRow
-withOwner i o = itemRow o (i .list .0) (i .flags)
 
 -- Define subject stores the privileges as given for the custodian, otherwise what the caller's own row also has.
 abbrev pub stored : Tables → ℕ → ℕ → ℕ

@@ -1,7 +1,7 @@
 -- Document 01, "The image": bytes to tables, tables to bytes, and the rules of the rows.
 use mathlib.Core.Bool.{Bool, false, _&&_, _||_, not, cond}
 use mathlib.Core.List.{List, [], _∷_, _++_}
-use Prim.Native.Nat.{ℕ, zero, suc, _+_, _-_, _*_, _/_, _%_}
+use Prim.Native.Nat.{ℕ, zero, suc, _+_, _-_, _*_, _/_, _%_, _^_}
 use lib.ListN.{length, getD, take, drop, replicate}
 use lib.Dec.{eqb, ltb, leb}
 use Rattle.model.specs.declared.SubjectRow.{SubjectRow}
@@ -14,6 +14,14 @@ use Rattle.model.specs.Lists.{allOf, sum, every, everyNumbered, zeros}
 use Rattle.model.specs.Sorted.{ascending}
 use Rattle.model.specs.Tree.{inTree}
 use Rattle.model.specs.WhoAndWhat.{privilegeWidth, everything, has, within}
+
+-- The bytes of the shortest and of the longest image.
+
+abbrev pub shortestImage : ℕ
+shortestImage = 36
+
+abbrev pub longestImage : ℕ
+longestImage = 65536
 
 -- The fields. A number of k bytes, little-endian; a field that runs past the end is 0.
 
@@ -68,6 +76,14 @@ lineRow list kind subject privileges = record { list = record { 0 = list }; kind
 
 abbrev pub itemRow : ℕ → ℕ → ℕ → ItemRow
 itemRow owner list flags = record { owner = record { 0 = owner }; list = record { 0 = list }; flags = flags }
+
+-- an item with another list, and with another owner
+
+abbrev pub withList : ItemRow → ℕ → ItemRow
+withList i a = itemRow (i .owner .0) a (i .flags)
+
+abbrev pub withOwner : ItemRow → ℕ → ItemRow
+withOwner i o = itemRow o (i .list .0) (i .flags)
 
 -- the rows of zeros
 
@@ -260,12 +276,25 @@ abbrev pub itemUsed : List ItemRow → ℕ → Bool
 itemUsed rows zero = false
 itemUsed rows (suc n) = ltb n (length rows)
 
--- flag bit 0: this item is an access list; bit 1: locked
+-- The flag bits of an item: this item is an access list; it is locked. There are no others.
+
+abbrev pub listFlag : ℕ
+listFlag = 0
+
+abbrev pub lockedFlag : ℕ
+lockedFlag = 1
+
+abbrev pub flagCount : ℕ
+flagCount = 2
+
+abbrev pub flagsFit : ℕ → Bool
+flagsFit flags = ltb flags (2 ^ flagCount)
+
 abbrev pub isList : List ItemRow → ℕ → Bool
-isList rows a = itemUsed rows a && has 0 (itemIn rows a .flags)
+isList rows a = itemUsed rows a && has listFlag (itemIn rows a .flags)
 
 abbrev pub isLocked : List ItemRow → ℕ → Bool
-isLocked rows i = has 1 (itemIn rows i .flags)
+isLocked rows i = has lockedFlag (itemIn rows i .flags)
 
 -- an access list, or 0 for none
 abbrev pub noneOrList : List ItemRow → ℕ → Bool
@@ -313,7 +342,7 @@ abbrev pub lineRules : List SubjectRow → List ItemRow → LineRow → Bool
 lineRules subjects items l = allOf (isList items (l .list .0) ∷ kindFits (l .kind) (l .subject .0) ∷ subjectUsed subjects (l .subject .0) ∷ [])
 
 abbrev pub itemRules : List SubjectRow → List ItemRow → ℕ → ItemRow → Bool
-itemRules subjects items n i = allOf (subjectUsed subjects (i .owner .0) ∷ noneOrList items (i .list .0) ∷ ltb (i .flags) 4 ∷ [])
+itemRules subjects items n i = allOf (subjectUsed subjects (i .owner .0) ∷ noneOrList items (i .list .0) ∷ flagsFit (i .flags) ∷ [])
 
 abbrev pub grantKey : GrantRow → List ℕ
 grantKey g = g .receiver .0 ∷ g .role .0 ∷ []
@@ -347,16 +376,22 @@ module _ {A : Type 0} (f : Format A) where
   abbrev pub unused : Table → List ℕ → List ℕ
   unused t img = take (t .end - (t .start + t .used * size f)) (drop (t .start + t .used * size f) img)
 
-unfoldable pub layoutRules : Layout → List ℕ → List Bool
-layoutRules lay img =
-    eqb (lay .items .end) (length img)
-    ∷ eqb (lay .subjects .start) headerSize
-    ∷ tableLies (subjectFormat (widthOf lay)) (lay .subjects)
+-- the header's own: the recorded total is the length, and the first table begins behind the header
+unfoldable pub headerRules : Layout → List ℕ → List Bool
+headerRules lay img = eqb (lay .items .end) (length img) ∷ eqb (lay .subjects .start) headerSize ∷ []
+
+-- those of the tables, and a subject is in use
+unfoldable pub tableRules : Layout → List Bool
+tableRules lay =
+    tableLies (subjectFormat (widthOf lay)) (lay .subjects)
     ∷ tableLies (grantFormat (widthOf lay)) (lay .grants)
     ∷ tableLies (lineFormat (widthOf lay)) (lay .lines)
     ∷ tableLies itemFormat (lay .items)
     ∷ leb 1 (lay .subjects .used)
     ∷ []
+
+unfoldable pub layoutRules : Layout → List ℕ → List Bool
+layoutRules lay img = allOf (headerRules lay img) ∷ allOf (tableRules lay) ∷ []
 
 -- unused rows are zero
 unfoldable pub unusedRules : Layout → List ℕ → List Bool

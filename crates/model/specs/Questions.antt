@@ -11,11 +11,13 @@ use lib.Dec.{T, eqb, ltb, leb}
 use Rattle.model.specs.declared.Answer.{Answer}
 use Rattle.model.specs.declared.GrantRow.{GrantRow}
 use Rattle.model.specs.declared.Layout.{Layout}
+use Rattle.model.specs.declared.Opened.{Opened}
+use Rattle.model.specs.declared.Opened.the-variants.{With, Refused}
 use Rattle.model.specs.Lists.{allOf, someNumbered, ifThere, isThere, Bytes}
 use Rattle.model.specs.Sorted.{find}
 use Rattle.model.specs.Tree.{inTree}
-use Rattle.model.specs.WhoAndWhat.{custodian, createItems, defineSubjects, editList, has}
-use Rattle.model.specs.Image.{Tables, layoutOf, tablesBy, tables, encode, widthOf, size, lineFormat, grantKey, lineKey, parentIn, subjectUsed, itemIn, itemUsed, isList, isLocked, noneOrList, kindFits, layoutRules, subjectsHold, itemsHold, linesHold, grantsHold, unusedRules}
+use Rattle.model.specs.WhoAndWhat.{custodian, defineCall, createCall, setLineCall, removeLineCall, neededPosition, has}
+use Rattle.model.specs.Image.{shortestImage, longestImage, Tables, layoutOf, tablesBy, tables, encode, widthOf, size, lineFormat, grantKey, lineKey, parentIn, subjectUsed, itemIn, itemUsed, isList, isLocked, noneOrList, flagsFit, kindFits, layoutRules, subjectsHold, itemsHold, linesHold, grantsHold, unusedRules}
 use Rattle.model.specs.Permission.{grantOf, operationSet, permissionSet}
 use Rattle.model.specs.Calls.{Ask, Change, rowsOf, rowsBefore, isEditor, told, after, made}
 use Rattle.model.specs.Calls.Ask.{checkImage, operationSetOf, permissionSetOf, countLines}
@@ -37,7 +39,7 @@ firstNo (q ∷ qs) = cond (q .answer) (firstNo qs) (q .number)
 -- Questions 1 to 7, which concern every call, of bytes whose tables lie by a layout.
 abbrev pub questionsBy : Layout → List ℕ → List Question
 questionsBy lay img =
-    1 asks (leb 36 (length img) && leb (length img) 65536)
+    1 asks (leb shortestImage (length img) && leb (length img) longestImage)
     ∷ 2 asks allOf (layoutRules lay img)
     ∷ 3 asks subjectsHold (tablesBy lay img)
     ∷ 4 asks itemsHold (tablesBy lay img)
@@ -59,7 +61,7 @@ askQuestions t (permissionSetOf s r i) = 10 asks subjectUsed (t .subjects) s ∷
 askQuestions t (countLines a) = 13 asks isList (t .items) a ∷ []
 
 unfoldable pub editorQuestions : Tables → ℕ → List Question
-editorQuestions t a = 13 asks isList (t .items) a ∷ 20 asks someNumbered (λ s row. isEditor t a s) (t .subjects) ∷ []
+editorQuestions t a = 13 asks isList (t .items) a ∷ 20 asks someNumbered (λ s row. isEditor t s a) (t .subjects) ∷ []
 
 -- 16 of define subject: p is in the tree of the caller or of its claimed role's grantor
 abbrev pub inReachUnder : Tables → ℕ → Option GrantRow → ℕ → Bool
@@ -90,7 +92,7 @@ unfoldable pub questions : Tables → Change → List Question
 questions t (defineSubject c r p v) =
     10 asks subjectUsed (t .subjects) c
     ∷ 11 asks subjectUsed (t .subjects) p
-    ∷ 15 asks has defineSubjects (operationSet t c r)
+    ∷ 15 asks has (neededPosition defineCall) (operationSet t c r)
     ∷ 16 asks inReach t c r p
     ∷ 19 asks ltb (length (t .subjects)) (t .room .subjects)
     ∷ []
@@ -115,7 +117,7 @@ questions t (setLine c r a k s v) =
     ∷ 11 asks subjectUsed (t .subjects) s
     ∷ 13 asks isList (t .items) a
     ∷ 14 asks kindFits k s
-    ∷ 15 asks has editList (permissionSet t c r a)
+    ∷ 15 asks has (neededPosition setLineCall) (permissionSet t c r a)
     ∷ 19 asks (lineThere t a k s || ltb (length (t .lines)) (t .room .lines))
     ∷ []
 questions t (removeLine c r a k s) =
@@ -123,14 +125,14 @@ questions t (removeLine c r a k s) =
     ∷ 11 asks subjectUsed (t .subjects) s
     ∷ 13 asks isList (t .items) a
     ∷ 14 asks kindFits k s
-    ∷ 15 asks has editList (permissionSet t c r a)
+    ∷ 15 asks has (neededPosition removeLineCall) (permissionSet t c r a)
     ∷ 17 asks lineThere t a k s
     ∷ []
 questions t (createItem c r a f) =
     10 asks subjectUsed (t .subjects) c
     ∷ 13 asks noneOrList (t .items) a
-    ∷ 14 asks ltb f 4
-    ∷ 15 asks has createItems (operationSet t c r)
+    ∷ 14 asks flagsFit f
+    ∷ 15 asks has (neededPosition createCall) (operationSet t c r)
     ∷ 19 asks ltb (length (t .items)) (t .room .items)
     ∷ []
 questions t (bind c i a) =
@@ -156,6 +158,15 @@ answered n r = answer n (cond (eqb n 0) r 0)
 -- Check an image.
 unfoldable pub check : List ℕ → ℕ
 check img = firstNo (imageQuestions img)
+
+-- What opening an image comes to: its layout where every question is answered yes, the number of the first no otherwise.
+unfoldable pub opened : List ℕ → Opened
+opened img = cond (eqb (check img) 0) (With (layoutOf img)) (Refused (check img))
+
+-- the number of each case
+abbrev pub refusalOf : Opened → ℕ
+refusalOf (With lay) = 0
+refusalOf (Refused n) = n
 
 -- An accepted image: bytes for which questions 1 to 7 are all answered yes.
 pub record Accepted (img : List ℕ) : Type 0 where
@@ -195,4 +206,4 @@ partBytes img a = take (partLength img a) (drop (partStart img a) img)
 pub record EditorAnswer (img : List ℕ) (a : ℕ) (r : Answer) : Type 0 where
   pub number-decided : r .number ≡ firstNo (imageQuestions img ++ editorQuestions (tables img) a)
   pub refused : r .number ≢ 0 → r .result ≡ 0
-  pub found : r .number ≡ 0 → T (isEditor (tables img) a (r .result))
+  pub found : r .number ≡ 0 → T (isEditor (tables img) (r .result) a)

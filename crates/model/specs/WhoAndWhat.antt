@@ -46,11 +46,27 @@ within a b = eqb (a ∩ b) a
 abbrev pub maskOf : ℕ → ℕ
 maskOf n = cond (ltb n 32) (2 ^ n) 0
 
--- The rule of the code's table of needed positions: what question 15 asks for, of define subject (0), create item (1), set line (2) and remove
--- line (3); of no other call, 32, which no set has.
+-- The calls that question 15 asks a position of, numbered as in the code's table.
+abbrev pub defineCall : ℕ
+defineCall = 0
+
+abbrev pub createCall : ℕ
+createCall = 1
+
+abbrev pub setLineCall : ℕ
+setLineCall = 2
+
+abbrev pub removeLineCall : ℕ
+removeLineCall = 3
+
+-- past the last position of every set, also of one of 64 bits
+abbrev pub noPosition : ℕ
+noPosition = 64
+
+-- The position that question 15 asks of each of them, which is also the rule of the code's table; of no other call, no position.
 abbrev pub neededPosition : ℕ → ℕ
 neededPosition zero = defineSubjects
 neededPosition (suc zero) = createItems
 neededPosition (suc (suc zero)) = editList
 neededPosition (suc (suc (suc zero))) = editList
-neededPosition (suc (suc (suc (suc n)))) = 32
+neededPosition (suc (suc (suc (suc n)))) = noPosition

@@ -2,7 +2,7 @@
 // document 01.
 ghost use mathlib.Core.Path.{_≡_};
 ghost use Rattle.model.specs.WhoAndWhat.{maskOf, neededPosition, has, within, _∪_, _∩_};
-ghost use Rattle.model.specs.Image.{subjectRow, grantRow, lineRow, itemRow};
+ghost use Rattle.model.specs.Image.{subjectRow, grantRow, lineRow, itemRow, withList, withOwner, listFlag, lockedFlag};
 ghost use Rattle.model.specs.Questions.{answer};
 
 pub mod refusal;
@@ -73,6 +73,12 @@ pub struct Layout {
     pub grants: Table,
     pub lines: Table,
     pub items: Table,
+}
+
+// What opening an image comes to: it is accepted and lies by this layout, or it is refused with this number.
+pub enum Opened {
+    With(Layout),
+    Refused(u32),
 }
 
 // What a call answers: 0 and its result, or the refusal and 0.
@@ -178,7 +184,7 @@ impl ItemRow {
     pub const IS_LIST: u32 = 1;
 
     pub const LOCKED: u32 = 2;
-    // How many numbers the two bits make: flags from here on have a bit that means nothing.
+    // How many numbers the flag bits make: flags from here on have a bit that means nothing.
     pub const FLAGS: u32 = 4;
 
     pub fn new(owner: Subject, list: Item, flags: u32) -> ItemRow
@@ -187,14 +193,27 @@ impl ItemRow {
         ItemRow { owner, list, flags }
     }
 
+    // The item with another list, and with another owner.
+    pub fn with_list(self, list: Item) -> ItemRow
+        ensures { λ r. ⌜ r ≡ withList self (list .0) ⌝ }
+    {
+        ItemRow::new(self.owner, list, self.flags)
+    }
+
+    pub fn with_owner(self, owner: Subject) -> ItemRow
+        ensures { λ r. ⌜ r ≡ withOwner self (owner .0) ⌝ }
+    {
+        ItemRow::new(owner, self.list, self.flags)
+    }
+
     pub fn is_list(self) -> bool
-        ensures { λ r. ⌜ r ≡ has 0 (self .flags) ⌝ }
+        ensures { λ r. ⌜ r ≡ has listFlag (self .flags) ⌝ }
     {
         self.flags & ItemRow::IS_LIST != 0
     }
 
     pub fn is_locked(self) -> bool
-        ensures { λ r. ⌜ r ≡ has 1 (self .flags) ⌝ }
+        ensures { λ r. ⌜ r ≡ has lockedFlag (self .flags) ⌝ }
     {
         self.flags & ItemRow::LOCKED != 0
     }
@@ -259,12 +278,12 @@ pub fn mask(position: u32) -> Privileges
     MASKS[at]
 }
 
-// The position that a call needs; 32, which no set has, where the number is no such call's.
+// The position that a call needs; 64, which no set has, where the number is no such call's.
 pub fn needed_position(call: u32) -> u32
     ensures { λ r. ⌜ r ≡ neededPosition call ⌝ }
 {
     if 4 <= call {
-        return 32;
+        return 64;
     }
     let at = call as usize;
     NEEDED[at]

@@ -2,9 +2,9 @@
 // time; what it says is decided in `reporting`.
 ghost use Prim.Native.Nat.{_≤_};
 ghost use lib.ListN.{length};
-use acceptance::check;
-use codec::header::layout_of;
+use acceptance::open;
 use model::Layout;
+use model::Opened;
 use reporting::PAGE;
 use reporting::PAGE_LINES;
 use reporting::first_line;
@@ -22,14 +22,23 @@ fn main() {
 }
 
 fn print_report(image: &[u8], page: &mut [u8; PAGE]) {
-    let number = check(image);
+    let opened = open(image);
+    match opened {
+        Opened::With(layout) => {
+            if print_first(0, page) {
+                print_lines(image, layout, page);
+            }
+        }
+        Opened::Refused(number) => {
+            print_first(number, page);
+        }
+    }
+}
+
+// The heading, or the refusal; false where nobody reads.
+fn print_first(number: u32, page: &mut [u8; PAGE]) -> bool {
     let start = first_line(number, page);
-    if !write_from(page, start) {
-        return;
-    }
-    if number == 0 {
-        print_lines(image, layout_of(image), page);
-    }
+    write_from(page, start)
 }
 
 // Stops where nobody reads any more.

@@ -8,12 +8,12 @@ ghost use Rattle.reporting.specs.Pages.{lineCount, lineAt, linesFrom, pa
 ghost use Rattle.reporting.specs.Texts.{Put};
 use super::PAGE;
 use super::text::put_number;
-use decision::permissions;
 use model::Item;
 use model::Layout;
 use model::Privileges;
 use model::Role;
 use model::Subject;
+use permission::decision::permissions;
 
 // Lines at the end of a page, from the last to the first.
 pub fn put_lines(image: &[u8], layout: Layout, first: u64, count: u64, page: &mut [u8]) -> usize

@@ -1,5 +1,5 @@
 // Words, numbers and answers on standard output.
-use asking::check_image;
+use asking::sets::check_image;
 use model::Answer;
 
 // A number behind its name.

@@ -1,5 +1,5 @@
 // The sample workshop of document 01 as an image, field by field.
-use fields::put_field;
+use fields::numbers::put_field;
 
 const LENGTH: usize = 316;
 

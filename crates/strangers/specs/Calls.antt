@@ -1,13 +1,13 @@
--- A stranger's call, call by call: what it was asked keeps it from what is watched, and from another's grant. t are the tables at the stop, u those that the
--- call finds. Each call makes one table anew; for each table there is a law that says what is asked of the new rows.
+-- An outsider's call, call by call: what it was asked keeps it from what is watched, and from another's grant. t are the tables at the
+-- stop, u those that the call finds. Each call makes one table anew; for each table there is a law that says what is asked of the new rows.
 use mathlib.Core.Bool.{_&&_, _||_, not}
 use mathlib.Core.List.{List, [], _∷_, _++_}
 use mathlib.Core.Logic.{_⊎_, inl, inr, _≢_}
 use mathlib.Core.Option.{some, Option·none-ne-some}
 use mathlib.Core.Path.{_≡_, refl, sym, ap, _∙_}
-use Prim.Native.Nat.{ℕ, zero, suc, _≤_}
+use Prim.Native.Nat.{ℕ, zero, suc, _<_, _≤_}
 use native.Mathlib.Omega.{arith}
-use lib.Dec.{T, eqb, ltb→lt, eqb→eq}
+use lib.Dec.{T, eqb, eqb→eq}
 use lib.ListN.{length, length-append}
 use Rattle.model.specs.declared.SubjectRow.{SubjectRow}
 use Rattle.model.specs.declared.GrantRow.{GrantRow}
@@ -16,9 +16,9 @@ use Rattle.model.specs.declared.ItemRow.{ItemRow}
 use Rattle.model.specs.Lists.{All, isThere}
 use Rattle.model.specs.Sorted.{find, put, cut}
 use Rattle.model.specs.WhoAndWhat.{custodian, editList, has}
-use Rattle.model.specs.Image.{Tables, grantRow, lineRow, itemRow, subjectRow, grantKey, lineKey, itemIn, itemUsed, isLocked}
+use Rattle.model.specs.Image.{Tables, grantRow, lineRow, itemRow, subjectRow, grantKey, lineKey, subjectIn, itemIn, itemUsed, isLocked, withList, withOwner}
 use Rattle.model.specs.Permission.{lineIn, grantOf, permissionSet}
-use Rattle.model.specs.Calls.{Change, callerOf, withSubjects, withGrants, withLines, withItems, setItem, withList, withOwner, stored, after}
+use Rattle.model.specs.Calls.{Change, callerOf, withSubjects, withGrants, withLines, withItems, setItem, stored, after}
 use Rattle.model.specs.Calls.Change.{defineSubject, setGrant, removeGrant, setLine, removeLine, createItem, bind, handOver}
 use Rattle.model.specs.Questions.{questions, givenBy, mayBind}
 use Rattle.laws.specs.Tests.{and-l, or-cases}
@@ -26,14 +26,14 @@ use Rattle.laws.specs.Sorted.{All-put, All-cut, same-or-not, find-put-other, fi
 use Rattle.laws.specs.Numbered.{subject-same, item-same, item-other, length-set-item}
 use Rattle.laws.specs.WellFormed.{WellFormed, Passed}
 use Rattle.laws.specs.Kept.{grants-ascending, lines-ascending}
-use Rattle.strangers.specs.Sequences.{ownerOf, Followed, Stranger}
+use Rattle.strangers.specs.Sequences.{ownerOf, Followed, Outsider}
 use Rattle.strangers.specs.Sequences.Insider.{the-custodian}
 use Rattle.strangers.specs.Watched.{Watched, watched-owner, watched-used}
 use Rattle.strangers.specs.Untouched.{Given, Untouched, item-still, no-editor}
 
 module _ (t : Tables) (document : ℕ) where
-  not-custodian : (c : ℕ) → Stranger t document c → c ≢ custodian
-  not-custodian c stranger e = (rw e at stranger) .outside (search the-custodian)
+  not-custodian : (c : ℕ) → Outsider t document c → c ≢ custodian
+  not-custodian c outsider e = (rw e at outsider) .outside (search the-custodian)
 
   module _ (well : WellFormed t) (there : T (itemUsed (t .items) document)) (u : Tables) (now : WellFormed u) (same : Untouched t document u) where
     -- One table anew.
@@ -41,20 +41,28 @@ module _ (t : Tables) (document : ℕ) where
     subject-more : (r : SubjectRow) → Untouched t document (withSubjects u (u .subjects ++ r ∷ []))
     subject-more r =
         record {
+          room-same = same .room-same;
           subjects-more = rw length-append (omega (arith, same .subjects-more));
-          subjects-same = λ s present.
-              subject-same (u .subjects) r s (omega (arith, same .subjects-more, ltb→lt s (length (t .subjects)) present)) ∙ same .subjects-same s present;
+          parents-same = λ s old. cc (kept s old, same .parents-same s old);
+          creators-same = λ s old. cc (kept s old, same .creators-same s old);
+          privileges-same = λ s old. cc (kept s old, same .privileges-same s old);
           items-more = same .items-more;
           watched-same = same .watched-same;
           lines-same = same .lines-same;
           grants-given = same .grants-given;
         }
+      where
+        kept : (s : ℕ) → s < length (t .subjects) → subjectIn (u .subjects ++ r ∷ []) s ≡ subjectIn (u .subjects) s
+        kept s old = subject-same (u .subjects) r s (omega (arith, same .subjects-more))
 
     grants-anew : (rows : List GrantRow) → All (Given t document) rows → Untouched t document (withGrants u rows)
     grants-anew rows given =
         record {
+          room-same = same .room-same;
           subjects-more = same .subjects-more;
-          subjects-same = same .subjects-same;
+          parents-same = same .parents-same;
+          creators-same = same .creators-same;
+          privileges-same = same .privileges-same;
           items-more = same .items-more;
           watched-same = same .watched-same;
           lines-same = same .lines-same;
@@ -66,8 +74,11 @@ module _ (t : Tables) (document : ℕ) where
         → Untouched t document (withLines u rows)
     lines-anew rows kept =
         record {
+          room-same = same .room-same;
           subjects-more = same .subjects-more;
-          subjects-same = same .subjects-same;
+          parents-same = same .parents-same;
+          creators-same = same .creators-same;
+          privileges-same = same .privileges-same;
           items-more = same .items-more;
           watched-same = same .watched-same;
           lines-same = λ a f k s. kept a f k s ∙ same .lines-same a f k s;
@@ -80,8 +91,11 @@ module _ (t : Tables) (document : ℕ) where
         → Untouched t document (withItems u rows)
     items-anew rows more kept =
         record {
+          room-same = same .room-same;
           subjects-more = same .subjects-more;
-          subjects-same = same .subjects-same;
+          parents-same = same .parents-same;
+          creators-same = same .creators-same;
+          privileges-same = same .privileges-same;
           items-more = omega (arith, same .items-more);
           watched-same = λ i w. kept i w ∙ same .watched-same i w;
           lines-same = same .lines-same;
@@ -89,9 +103,9 @@ module _ (t : Tables) (document : ℕ) where
         }
 
     -- The lines of a list that the caller may edit are none of a followed list's.
-    module _ (c r b : ℕ) (stranger : Stranger t document c) (allowed : T (has editList (permissionSet u c r b))) where
+    module _ (c r b : ℕ) (outsider : Outsider t document c) (allowed : T (has editList (permissionSet u c r b))) where
       another-list : (a : ℕ) → Followed t document a → b ≢ a
-      another-list a followed e = no-editor t document u same c a stranger followed r (rw e at allowed)
+      another-list a followed e = no-editor t document u same c a outsider followed r (rw e at allowed)
 
       line-put : (k s v : ℕ) → Untouched t document (withLines u (put lineKey (lineRow b k s v) (u .lines)))
       line-put k s v = lines-anew (put lineKey (lineRow b k s v) (u .lines)) kept
@@ -117,8 +131,8 @@ module _ (t : Tables) (document : ℕ) where
         (λ j w. item-other (u .items) i r j (λ e. apart (rw e at w)))
 
     -- who may bind an item is its owner or the custodian
-    not-watched : (c i : ℕ) → Stranger t document c → T (mayBind u c i) → ¬ Watched t document i
-    not-watched c i stranger may w =
+    not-watched : (c i : ℕ) → Outsider t document c → T (mayBind u c i) → ¬ Watched t document i
+    not-watched c i outsider may w =
         go (or-cases (eqb c (ownerOf u i) && not (isLocked (u .items) i)) (eqb c custodian) may)
       where
         go : T (eqb c (ownerOf u i) && not (isLocked (u .items) i)) ⊎ T (eqb c custodian) → ⊥
@@ -126,28 +140,28 @@ module _ (t : Tables) (document : ℕ) where
             let e : c ≡ ownerOf u i =
             eqb→eq c (ownerOf u i) (and-l (eqb c (ownerOf u i)) (not (isLocked (u .items) i)) owns) in
             let owner : c ≡ ownerOf t i = e ∙ ap (λ (x : ItemRow). x .owner .0) (same .watched-same i w) in
-            (rw owner at stranger) .outside (watched-owner t document w)
-        go (inr e) = not-custodian c stranger (eqb→eq c custodian e)
+            (rw owner at outsider) .outside (watched-owner t document w)
+        go (inr e) = not-custodian c outsider (eqb→eq c custodian e)
 
     -- The eight calls.
-    pub untouched-after : (c : Change) → Stranger t document (callerOf c) → Passed (questions u c) → Untouched t document (after u c)
+    pub untouched-after : (c : Change) → Outsider t document (callerOf c) → Passed (questions u c) → Untouched t document (after u c)
     unfolding questions after
-    untouched-after (defineSubject c r p v) stranger q = subject-more (subjectRow p (stored u c v) c)
-    untouched-after (setGrant c s r d v) stranger q =
+    untouched-after (defineSubject c r p v) outsider q = subject-more (subjectRow p (stored u c v) c)
+    untouched-after (setGrant c s r d v) outsider q =
         grants-anew (put grantKey (grantRow s r c d v) (u .grants))
         (All-put grantKey (Given t document) (grantRow s r c d v) (u .grants)
-        record { grantor-present = stranger .present; grantor-outside = λ holder. stranger .outside }
+        record { grantor-present = outsider .present; grantor-outside = λ holder. outsider .outside }
         (same .grants-given))
-    untouched-after (removeGrant c s r) stranger q =
+    untouched-after (removeGrant c s r) outsider q =
         grants-anew (cut grantKey (s ∷ r ∷ []) (u .grants)) (All-cut grantKey (Given t document) (s ∷ r ∷ []) (u .grants) (same .grants-given))
-    untouched-after (setLine c r a k s v) stranger q = line-put c r a stranger (search q) k s v
-    untouched-after (removeLine c r a k s) stranger q = line-cut c r a stranger (search q) k s
-    untouched-after (createItem c r a f) stranger q =
+    untouched-after (setLine c r a k s v) outsider q = line-put c r a outsider (search q) k s v
+    untouched-after (removeLine c r a k s) outsider q = line-cut c r a outsider (search q) k s
+    untouched-after (createItem c r a f) outsider q =
         items-anew (u .items ++ itemRow c a f ∷ []) (rw length-append (omega arith))
         (λ i w. item-same (u .items) (itemRow c a f) i (item-still t document u same i (watched-used t document well there w)))
-    untouched-after (bind c i a) stranger q = item-anew i (withList (itemIn (u .items) i) a) (not-watched c i stranger (search q))
-    untouched-after (handOver c i o) stranger q =
-        item-anew i (withOwner (itemIn (u .items) i) o) (λ w. not-custodian c stranger (eqb→eq c custodian (search q)))
+    untouched-after (bind c i a) outsider q = item-anew i (withList (itemIn (u .items) i) a) (not-watched c i outsider (search q))
+    untouched-after (handOver c i o) outsider q =
+        item-anew i (withOwner (itemIn (u .items) i) o) (λ w. not-custodian c outsider (eqb→eq c custodian (search q)))
 
   -- Another's grant: only its grantor sets it anew, and only he or the custodian removes it.
   module _ (u : Tables) (now : WellFormed u) (g : GrantRow) where
@@ -181,17 +195,18 @@ module _ (t : Tables) (document : ℕ) where
     pub grant-kept : (s r : ℕ) (c : Change)
         → grantOf u s r ≡ some g
         → callerOf c ≢ g .grantor .0
-        → Stranger t document (callerOf c)
+        → Outsider t document (callerOf c)
         → Passed (questions u c)
         → grantOf (after u c) s r ≡ some g
     unfolding questions after
-    grant-kept s zero c held another stranger q = absurd (Option·none-ne-some g held)
-    grant-kept s (suc r) (defineSubject c x p v) held another stranger q = held
-    grant-kept s (suc r) (setGrant c x y d v) held another stranger q = put-kept (s ∷ suc r ∷ []) (grantRow x y c d v) held (search q) another
-    grant-kept s (suc r) (removeGrant c x y) held another stranger q =
-        cut-kept (s ∷ suc r ∷ []) (x ∷ y ∷ []) c held (search q) another (not-custodian c stranger)
-    grant-kept s (suc r) (setLine c x a k y v) held another stranger q = held
-    grant-kept s (suc r) (removeLine c x a k y) held another stranger q = held
-    grant-kept s (suc r) (createItem c x a f) held another stranger q = held
-    grant-kept s (suc r) (bind c i a) held another stranger q = held
-    grant-kept s (suc r) (handOver c i o) held another stranger q = held
+    grant-kept s zero c held another outsider q = absurd (Option·none-ne-some g held)
+    grant-kept s (suc r) (defineSubject c x p v) held another outsider q = held
+    grant-kept s (suc r) (setGrant c x y d v) held another outsider q =
+        put-kept (s ∷ suc r ∷ []) (grantRow x y c d v) held (search q) another
+    grant-kept s (suc r) (removeGrant c x y) held another outsider q =
+        cut-kept (s ∷ suc r ∷ []) (x ∷ y ∷ []) c held (search q) another (not-custodian c outsider)
+    grant-kept s (suc r) (setLine c x a k y v) held another outsider q = held
+    grant-kept s (suc r) (removeLine c x a k y) held another outsider q = held
+    grant-kept s (suc r) (createItem c x a f) held another outsider q = held
+    grant-kept s (suc r) (bind c i a) held another outsider q = held
+    grant-kept s (suc r) (handOver c i o) held another outsider q = held

@@ -4,6 +4,7 @@ use mathlib.Core.List.{List, [], _∷_}
 use mathlib.Core.Path.{_≡_, refl, sym, ap, _∙_}
 use Prim.Native.Nat.{ℕ}
 use lib.Dec.{T}
+use Rattle.model.specs.declared.Opened.the-variants.{With}
 use Rattle.model.specs.Lists.{All}
 use Rattle.model.specs.Image.{Tables, layoutOf, tables, subjectUsed, itemUsed}
 use Rattle.model.specs.Permission.{grantOf, permissionSet}
@@ -14,11 +15,14 @@ use Rattle.laws.specs.Tests.{_and_}
 use Rattle.laws.specs.WellFormed.{WellFormed, Passed}
 use Rattle.laws.specs.Answers.{first-passed}
 use Rattle.laws.specs.Back.{tables-well-formed}
+use Rattle.laws.specs.Opens.{opened-yes}
 use Rattle.laws.specs.Asks.{ask-done}
 use Rattle.laws.specs.Acts.{act-accepted, act-keeps}
 use Rattle.strangers.specs.Sequences.{Step, run, writing, Stranger, Claim, Demand3}
 use Rattle.strangers.specs.Sequences.Step.{changes, reads}
 use Rattle.strangers.specs.Sequences.Claim.{no-role, granted}
+use Rattle.strangers.specs.Sequences.Start.{the-document}
+use Rattle.strangers.specs.Watched.{Watched}
 use Rattle.strangers.specs.Untouched.{Untouched, untouched-at-stop, subject-still, item-still, permission-same}
 use Rattle.strangers.specs.Calls.{untouched-after, grant-kept}
 
@@ -46,7 +50,7 @@ module _ (stop : List ℕ) (asker role document : ℕ) where
         → Kept (after u c)
     kept-after u c more stranger claim kept now q =
         record {
-          untouched = untouched-after (tables stop) document well present u now (kept .untouched) c stranger q;
+          untouched = untouched-after (tables stop) document well present u now (kept .untouched) c (stranger .outsider) q;
           grant-same = grant claim (kept .grant-same);
         }
       where
@@ -56,7 +60,7 @@ module _ (stop : List ℕ) (asker role document : ℕ) where
             → grantOf (after u c) asker r ≡ grantOf (tables stop) asker r
         grant no-role same = refl
         grant (granted {r} g held others) same =
-            grant-kept (tables stop) document u now g asker r c (same ∙ held) (others .0) stranger q ∙ sym held
+            grant-kept (tables stop) document u now g asker r c (same ∙ held) (others .0) (stranger .outsider) q ∙ sym held
 
     -- the role is claimed beside the further calls too
     rest : (c : Change) (more : List Change) → {r : ℕ} → Claim (tables stop) asker (c ∷ more) r → Claim (tables stop) asker more r
@@ -87,7 +91,10 @@ asked-set : (img : List ℕ) (s r i : ℕ)
 unfolding askQuestions told
 asked-set img s r i accepted subject item =
     sym
-    (ask-done img 0 (sym (accepted .checked)) (permissionSetOf s r i) (answer 0 (permissionSet (tables img) s r i)) refl (layoutOf img) refl
+    (ask-done img (With (layoutOf img)) (opened-yes img (layoutOf img) refl (sym (accepted .checked))) (permissionSetOf s r i)
+    (answer 0 (permissionSet (tables img) s r i))
+    (layoutOf img)
+    refl
     (permissionSet (tables img) s r i)
     (sym (first-passed (askQuestions (tables img) (permissionSetOf s r i)) (subject and item and tt)))
     refl refl)
@@ -123,5 +130,5 @@ demand-3 start accepted first second handed-first handed-second asker role docum
 
     set-same : permissionSet (tables later) asker role document ≡ permissionSet (tables stop) asker role document
     set-same =
-        permission-same (tables stop) document (tables later) (kept .untouched) well (covered .document-present) asker (covered .asker-present) role
-        (kept .grant-same)
+        permission-same (tables stop) document (tables later) (kept .untouched) well (covered .document-present)
+        document (Watched.start the-document) asker (covered .asker-present) role (kept .grant-same)

@@ -62,11 +62,15 @@ module _ (t : Tables) (document : ℕ) where
     owns-list : {a : ℕ} → Followed a → Insider (ownerOf t a)
     may-edit : {a s : ℕ} → Followed a → T (has editList (linesPart t s a)) → Insider s
 
-  -- A stranger is present, is no insider, and holds no role granted by one.
-  pub record Stranger (s : ℕ) : Type 0 where
+  -- An outsider is present, is no insider, and holds no role granted by one.
+  pub record Outsider (s : ℕ) : Type 0 where
     pub present : T (subjectUsed (t .subjects) s)
     pub outside : ¬ Insider s
     pub holds-none : All (λ g. g .receiver .0 ≡ s → ¬ Insider (g .grantor .0)) (t .grants)
+
+  -- What the paper calls a stranger is an outsider; nothing more is asked of one.
+  pub record Stranger (s : ℕ) : Type 0 where
+    pub outsider : Outsider s
 
 -- The asker claims no role, or one granted to it at the stop whose grantor makes none of the added calls.
 pub data Claim (t : Tables) (asker : ℕ) (added : List Change) : ℕ → Type 0 where

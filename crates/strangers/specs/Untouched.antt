@@ -8,7 +8,6 @@ use Prim.Native.Nat.{ℕ, zero, suc, _<_, _≤_}
 use native.Mathlib.Omega.{arith}
 use lib.Dec.{T, ltb→lt, lt→ltb}
 use lib.ListN.{length}
-use Rattle.model.specs.declared.SubjectRow.{SubjectRow}
 use Rattle.model.specs.declared.GrantRow.{GrantRow}
 use Rattle.model.specs.Lists.{All}
 use Rattle.model.specs.Tree.{inTree}
@@ -21,33 +20,39 @@ use Rattle.laws.specs.Sets.{has-or, has-and}
 use Rattle.laws.specs.WellFormed.{WellFormed}
 use Rattle.laws.specs.Tree.{tree-same, group-same}
 use Rattle.laws.specs.Kept.{grant-rules}
-use Rattle.strangers.specs.Sequences.{listOf, ownerOf, Followed, Insider, Stranger}
-use Rattle.strangers.specs.Sequences.Start.{the-document}
+use Rattle.strangers.specs.Sequences.{listOf, ownerOf, Followed, Insider, Outsider}
 use Rattle.strangers.specs.Sequences.Insider.{may-edit}
 use Rattle.strangers.specs.Watched.{Watched, watched-list, owner-used}
-use Rattle.strangers.specs.Watched.Watched.{start, list}
+use Rattle.strangers.specs.Watched.Watched.{list}
 
 module _ (t : Tables) (document : ℕ) where
-  -- a grant's grantor was there at the stop, and is no insider where a stranger holds it
+  -- a grant's grantor was there at the stop, and is no insider where an outsider holds it
   pub record Given (g : GrantRow) : Type 0 where
     pub grantor-present : T (subjectUsed (t .subjects) (g .grantor .0))
-    pub grantor-outside : Stranger t document (g .receiver .0) → ¬ Insider t document (g .grantor .0)
+    pub grantor-outside : Outsider t document (g .receiver .0) → ¬ Insider t document (g .grantor .0)
 
-  -- No subject at the stop has gone or changed, nor has a watched item or a line of a followed list. Every grant was given as said.
+  -- The tables have the room that they had. No subject at the stop has gone or has another parent, creator or privileges. No watched item
+  -- has changed, nor a line of a followed list. Every grant was given as said.
   pub record Untouched (u : Tables) : Type 0 where
+    pub room-same : u .room ≡ t .room
     pub subjects-more : length (t .subjects) ≤ length (u .subjects)
-    pub subjects-same : (s : ℕ) → T (subjectUsed (t .subjects) s) → subjectIn (u .subjects) s ≡ subjectIn (t .subjects) s
+    pub parents-same : (s : ℕ) → s < length (t .subjects) → parentIn (u .subjects) s ≡ parentIn (t .subjects) s
+    pub creators-same : (s : ℕ) → s < length (t .subjects) → subjectIn (u .subjects) s .creator .0 ≡ subjectIn (t .subjects) s .creator .0
+    pub privileges-same : (s : ℕ) → s < length (t .subjects) → privilegesIn (u .subjects) s ≡ privilegesIn (t .subjects) s
     pub items-more : length (t .items) ≤ length (u .items)
     pub watched-same : (i : ℕ) → Watched t document i → itemIn (u .items) i ≡ itemIn (t .items) i
     pub lines-same : (a : ℕ) → Followed t document a → (k s : ℕ) → lineIn (u .lines) a k s ≡ lineIn (t .lines) a k s
     pub grants-given : All Given (u .grants)
 
-  -- All of it holds at the stop. A stranger holds none of the grants whose grantor is an insider, row by row.
+  -- All of it holds at the stop. An outsider holds none of the grants whose grantor is an insider, row by row.
   pub untouched-at-stop : WellFormed t → Untouched t
   untouched-at-stop well =
       record {
+        room-same = refl;
         subjects-more = omega arith;
-        subjects-same = λ s present. refl;
+        parents-same = λ s old. refl;
+        creators-same = λ s old. refl;
+        privileges-same = λ s old. refl;
         items-more = omega arith;
         watched-same = λ i w. refl;
         lines-same = λ a f k s. refl;
@@ -77,12 +82,6 @@ module _ (t : Tables) (document : ℕ) where
     item-still zero present = present
     item-still (suc n) present = lt→ltb n (length (u .items)) (omega (arith, same .items-more, ltb→lt n (length (t .items)) present))
 
-    parents-agree : (s : ℕ) → s < length (t .subjects) → parentIn (u .subjects) s ≡ parentIn (t .subjects) s
-    parents-agree s h = ap (λ (x : SubjectRow). x .parent .0) (same .subjects-same s (search lt→ltb))
-
-    privileges-same : (s : ℕ) → T (subjectUsed (t .subjects) s) → privilegesIn (u .subjects) s ≡ privilegesIn (t .subjects) s
-    privileges-same s present = ap (λ (x : SubjectRow). x .privileges) (same .subjects-same s present)
-
     own-lines-agree : (a : ℕ) → (a ≡ 0) ⊎ Followed t document a → (k s : ℕ) → lineIn (u .lines) a k s ≡ lineIn (t .lines) a k s
     own-lines-agree a (inl e) k s = rw e refl
     own-lines-agree a (inr f) k s = same .lines-same a f k s
@@ -98,7 +97,7 @@ module _ (t : Tables) (document : ℕ) where
           agree ownerKind 0,
           agree itselfKind s,
           agree everyoneKind 0,
-          group-same (parentIn (u .subjects)) (parentIn (t .subjects)) (length (t .subjects)) parents-agree
+          group-same (parentIn (u .subjects)) (parentIn (t .subjects)) (length (t .subjects)) (same .parents-same)
               (u .lines) (t .lines) (listOf t i) agree s (search ltb→lt),
         )
 
@@ -107,20 +106,20 @@ module _ (t : Tables) (document : ℕ) where
     given-of s zero = tt
     given-of s (suc r) = All-find grantKey Given (s ∷ suc r ∷ []) (u .grants) (same .grants-given)
 
-    -- A stranger may not edit a followed list, under whatever role: that its own lines' part allows it would make it an insider, and that its grantor's does
-    -- would make that one an insider.
-    module _ (c a : ℕ) (stranger : Stranger t document c) (followed : Followed t document a) where
+    -- An outsider may not edit a followed list, under whatever role: that its own lines' part allows it would make it an insider, and that
+    -- its grantor's does would make that one an insider.
+    module _ (c a : ℕ) (outsider : Outsider t document c) (followed : Followed t document a) where
       allowed-inside : (s : ℕ) → T (subjectUsed (t .subjects) s) → T (has editList (linesPart u s a)) → Insider t document s
       allowed-inside s present allowed =
           let allowed-then : T (has editList (linesPart t s a)) = rw (part-same s a present (list followed)) at allowed in search may-edit
 
-      lent-none : (o : Option GrantRow) (r : ℕ) → IfSome (λ g. Given g × (grantKey g ≡ c ∷ r ∷ [])) o → ¬ T (has editList (lentPart u a o))
+      lent-none : (o : Option GrantRow) (r : ℕ) → IfSome (λ g. Given g × (grantKey g ≡ c ∷ r ∷ [])) o → ¬ T (has editList (lentPart u o a))
       unfolding has
       lent-none none r p allowed = allowed
       lent-none (some g) r p allowed = go (inTree (parentIn (u .subjects)) (g .domain .0) (ownerOf u a)) allowed
         where
-          received : Stranger t document (g .receiver .0)
-          received = let holder : g .receiver .0 ≡ c = cc (p .1) in rw holder stranger
+          received : Outsider t document (g .receiver .0)
+          received = let holder : g .receiver .0 ≡ c = cc (p .1) in rw holder outsider
 
           go : (b : Bool) → ¬ T (has editList (cond b (g .privileges ∩ linesPart u (g .grantor .0) a) 0))
           go true h =
@@ -137,51 +136,53 @@ module _ (t : Tables) (document : ℕ) where
           and-r (has editList (operationUnder u c (grantOf u c r))) (has editList (objectUnder u c (grantOf u c r) a))
           (rw (has-and editList (operationUnder u c (grantOf u c r)) (objectUnder u c (grantOf u c r) a)) at allowed) in
           go
-          (or-cases (has editList (linesPart u c a)) (has editList (lentPart u a (grantOf u c r)))
-          (rw (has-or editList (linesPart u c a) (lentPart u a (grantOf u c r))) at object))
+          (or-cases (has editList (linesPart u c a)) (has editList (lentPart u (grantOf u c r) a))
+          (rw (has-or editList (linesPart u c a) (lentPart u (grantOf u c r) a)) at object))
         where
-          go : T (has editList (linesPart u c a)) ⊎ T (has editList (lentPart u a (grantOf u c r))) → ⊥
-          go (inl own) = stranger .outside (allowed-inside c (stranger .present) own)
+          go : T (has editList (linesPart u c a)) ⊎ T (has editList (lentPart u (grantOf u c r) a)) → ⊥
+          go (inl own) = outsider .outside (allowed-inside c (outsider .present) own)
           go (inr lent) = lent-none (grantOf u c r) r (given-of c r) lent
 
-    -- The permission set on the document is read from what is the same, for one who was present and under a grant whose grantor was.
-    module _ (well : WellFormed t) (there : T (itemUsed (t .items) document)) (asker : ℕ) (present : T (subjectUsed (t .subjects) asker)) where
-      the-item : itemIn (u .items) document ≡ itemIn (t .items) document
-      the-item = same .watched-same document (start the-document)
+    -- of a grant, where there is one: its grantor was present
+    abbrev GrantorThere : Option GrantRow → Type 0
+    GrantorThere = IfSome (λ g. T (subjectUsed (t .subjects) (g .grantor .0)))
 
-      lent-operations-same : (o : Option GrantRow) → IfSome (λ g. T (subjectUsed (t .subjects) (g .grantor .0))) o → lentOperations u o ≡ lentOperations t o
-      lent-operations-same none p = refl
-      lent-operations-same (some g) p = ap (λ (x : ℕ). g .privileges ∩ x) (privileges-same (g .grantor .0) p)
+    -- such a grant lends the same to the operation set
+    lent-operations-same : (o : Option GrantRow) → GrantorThere o → lentOperations u o ≡ lentOperations t o
+    lent-operations-same none p = refl
+    lent-operations-same (some g) p = ap (λ (x : ℕ). g .privileges ∩ x) (same .privileges-same (g .grantor .0) (search ltb→lt))
 
-      lent-part-same : (o : Option GrantRow) → IfSome (λ g. T (subjectUsed (t .subjects) (g .grantor .0))) o → lentPart u document o ≡ lentPart t document o
+    -- The permission set on a watched item is read from what is the same, for one who was present and under a grant whose grantor was.
+    module _ (well : WellFormed t) (there : T (itemUsed (t .items) document)) (i : ℕ) (w : Watched t document i) where
+      lent-part-same : (o : Option GrantRow) → GrantorThere o → lentPart u o i ≡ lentPart t o i
       lent-part-same none p = refl
       lent-part-same (some g) p =
           rw (
-            part-same (g .grantor .0) document p (start the-document),
-            the-item,
-            tree-same (parentIn (u .subjects)) (parentIn (t .subjects)) (length (t .subjects)) parents-agree (g .domain .0) (ownerOf t document)
-                (search (ltb→lt, owner-used)),
+            part-same (g .grantor .0) i p w,
+            same .watched-same i w,
+            tree-same (parentIn (u .subjects)) (parentIn (t .subjects)) (length (t .subjects)) (same .parents-same)
+                (g .domain .0) (ownerOf t i)
+                (ltb→lt (ownerOf t i) (length (t .subjects)) (owner-used t document well there w)),
           )
 
-      under-same : (o : Option GrantRow) → IfSome (λ g. T (subjectUsed (t .subjects) (g .grantor .0))) o
-          → permissionUnder u asker o document ≡ permissionUnder t asker o document
-      unfolding permissionUnder operationUnder objectUnder
-      under-same o p =
-          rw (
-            privileges-same asker present,
-            lent-operations-same o p,
-            part-same asker document present (start the-document),
-            lent-part-same o p,
-          )
+      module _ (asker : ℕ) (present : T (subjectUsed (t .subjects) asker)) where
+        under-same : (o : Option GrantRow) → GrantorThere o → permissionUnder u asker o i ≡ permissionUnder t asker o i
+        unfolding permissionUnder operationUnder objectUnder
+        under-same o p =
+            rw (
+              same .privileges-same asker (search ltb→lt),
+              lent-operations-same o p,
+              part-same asker i present w,
+              lent-part-same o p,
+            )
 
-      grantor-present-of : (o : Option GrantRow) (r : ℕ) → IfSome (λ g. Given g × (grantKey g ≡ asker ∷ r ∷ [])) o
-          → IfSome (λ g. T (subjectUsed (t .subjects) (g .grantor .0))) o
-      grantor-present-of none r p = tt
-      grantor-present-of (some g) r p = p .0 .grantor-present
+        grantor-present-of : (o : Option GrantRow) (r : ℕ) → IfSome (λ g. Given g × (grantKey g ≡ asker ∷ r ∷ [])) o → GrantorThere o
+        grantor-present-of none r p = tt
+        grantor-present-of (some g) r p = p .0 .grantor-present
 
-      pub permission-same : (role : ℕ)
-          → grantOf u asker role ≡ grantOf t asker role
-          → permissionSet u asker role document ≡ permissionSet t asker role document
-      permission-same role grant =
-          under-same (grantOf u asker role) (grantor-present-of (grantOf u asker role) role (given-of asker role))
-          ∙ ap (λ (o : Option GrantRow). permissionUnder t asker o document) grant
+        pub permission-same : (role : ℕ)
+            → grantOf u asker role ≡ grantOf t asker role
+            → permissionSet u asker role i ≡ permissionSet t asker role i
+        permission-same role grant =
+            under-same (grantOf u asker role) (grantor-present-of (grantOf u asker role) role (given-of asker role))
+            ∙ ap (λ (o : Option GrantRow). permissionUnder t asker o i) grant

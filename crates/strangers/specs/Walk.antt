@@ -1,6 +1,7 @@
--- The followed lists as a walk: from the document to its list, to that list's own list, and on until none or a repeat. It meets exactly the followed lists.
--- At each step the lists met are followed ones, and the document's list and theirs are met or next to meet. At the end nothing new is next, so all are met.
--- The steps suffice: a list that has a list of its own is an item in use, so meeting it leaves one item fewer to meet.
+-- The followed lists as walks: from each start to its list, to that list's own list, and on until none or a repeat. They meet exactly the
+-- followed lists. At each step the lists met are followed ones, and the lists of the starts walked from and of those met are met or next to
+-- meet. At the end nothing new is next, so all are met. The steps suffice: a list that has a list of its own is an item in use, so meeting
+-- it leaves one item fewer to meet.
 use mathlib.Core.Bool.{Bool, true, false, _||_, cond, true≢false}
 use mathlib.Core.List.{List, [], _∷_}
 use mathlib.Core.Logic.{inl, inr, _≢_}
@@ -13,7 +14,7 @@ use lib.ListN.{length, List·getD-eq-default}
 use Rattle.model.specs.Lists.{All}
 use Rattle.model.specs.Image.{Tables, noItem}
 use Rattle.laws.specs.Tests.{two, or-l, or-r, or-cases, eq-or-ne, le-or-lt, true-T, All-map}
-use Rattle.strangers.specs.Sequences.{listOf, Followed}
+use Rattle.strangers.specs.Sequences.{listOf, Start, Followed}
 use Rattle.strangers.specs.Sequences.Start.{the-document}
 use Rattle.strangers.specs.Sequences.Followed.{its-list, list-of}
 
@@ -25,24 +26,37 @@ someOf test (x ∷ xs) = test x || someOf test xs
 abbrev pub among : ℕ → List ℕ → Bool
 among a = someOf (eqb a)
 
--- The lists met, from list a on, after those met before. With more steps than there are items the walk is not cut short.
+-- The lists met, from list a on, after those met before; the last one stands first. With more steps than there are items the walk is not
+-- cut short.
 unfoldable pub walk : Tables → ℕ → List ℕ → ℕ → List ℕ
 walk t zero met a = met
 walk t (suc n) met a = cond (eqb a 0 || among a met) met (walk t n (a ∷ met) (listOf t a))
 
--- the last list met stands first
+-- the lists met from each of some items, one walk after the other
+abbrev listsFrom : Tables → List ℕ → List ℕ
+listsFrom t [] = []
+listsFrom t (d ∷ starts) = walk t (suc (length (t .items))) (listsFrom t starts) (listOf t d)
+
+-- the items that are followed from, and the lists met from them
+abbrev pub startsOf : Tables → ℕ → List ℕ
+startsOf t document = document ∷ []
+
 abbrev pub followedLists : Tables → ℕ → List ℕ
-followedLists t document = walk t (suc (length (t .items))) [] (listOf t document)
+followedLists t document = listsFrom t (startsOf t document)
 
 -- how many of the numbers 1 to m are not met
 unfoldable left : ℕ → List ℕ → ℕ
 left zero met = 0
 left (suc m) met = cond (among (suc m) met) 0 1 + left m met
 
-left-at-start : (m : ℕ) → left m [] ≡ m
+-- at most all of them are
+left-at-most : (m : ℕ) (met : List ℕ) → left m met ≤ m
 unfolding left
-left-at-start zero = refl
-left-at-start (suc m) = omega (arith, left-at-start m)
+left-at-most zero met = omega arith
+left-at-most (suc m) met = elim (two (among (suc m) met)) [
+  | inl e ↦ rw e (omega (arith, left-at-most m met))
+  | inr e ↦ rw e (omega (arith, left-at-most m met))
+]
 
 -- a number met already (q) stays met as another is, or itself (p)
 one-more : (p q : Bool) → cond (p || q) 0 1 ≤ cond q 0 1
@@ -84,48 +98,82 @@ module _ (t : Tables) (document : ℕ) where
   abbrev Listed : List ℕ → ℕ → Type 0
   Listed lists x = listOf t x ≢ 0 → T (among (listOf t x) lists)
 
-  -- where list a is none or is met already, it adds nothing to those met
-  at-end : (met : List ℕ) (a : ℕ) → T (among a (0 ∷ met)) → (x : ℕ) → Listed (a ∷ met) x → Listed met x
-  at-end met a end x l some-list = elim (or-cases (eqb (listOf t x) a) (among (listOf t x) met) (l some-list)) [
-    | inl e ↦ elim (or-cases (eqb a 0) (among a met) end) [
-      | inl z ↦ absurd (some-list (eqb→eq (listOf t x) a e ∙ eqb→eq a 0 z))
-      | inr h ↦ rw (eqb→eq (listOf t x) a e) h
-    ]
-    | inr h ↦ h
-  ]
+  -- What holds along the walks: the lists met are followed ones; the starts walked from and the lists met have their lists among these.
+  record Met (starts met lists : List ℕ) : Type 0 where
+    followed : All (Followed t document) met
+    of-starts : All (Listed lists) starts
+    of-met : All (Listed lists) met
 
-  -- Along the walk, a is the next list, and there are more steps to go than items left. What is met is followed; the lists of the document and of those met
-  -- are met or next, and at the end they are met.
-  walk-met : (n : ℕ) (met : List ℕ) (a : ℕ)
+  -- what has its list among these has it among one more
+  more-listed : (b : ℕ) (lists xs : List ℕ) → All (Listed lists) xs → All (Listed (b ∷ lists)) xs
+  more-listed b lists = All-map (λ x l some-list. search or-r)
+
+  -- where the next list a is none or is met already, it adds nothing to those met
+  at-end : (starts met : List ℕ) (a : ℕ) → T (among a (0 ∷ met)) → Met starts met (a ∷ met) → Met starts met met
+  at-end starts met a end m =
+      record { followed = m .followed; of-starts = All-map listed starts (m .of-starts); of-met = All-map listed met (m .of-met) }
+    where
+      listed : (x : ℕ) → Listed (a ∷ met) x → Listed met x
+      listed x l some-list = elim (or-cases (eqb (listOf t x) a) (among (listOf t x) met) (l some-list)) [
+        | inl e ↦ elim (or-cases (eqb a 0) (among a met) end) [
+          | inl z ↦ absurd (some-list (eqb→eq (listOf t x) a e ∙ eqb→eq a 0 z))
+          | inr h ↦ rw (eqb→eq (listOf t x) a e) h
+        ]
+        | inr h ↦ h
+      ]
+
+  -- Along a walk, a is the next list, and there are more steps to go than items left. After a list met for the first time, its own is next.
+  walk-met : (n : ℕ) (starts met : List ℕ) (a : ℕ)
       → (a ≢ 0 → Followed t document a × (itemsLeft t met < n))
-      → All (Followed t document) met
-      → All (Listed (a ∷ met)) (document ∷ met)
-      → All (Followed t document) (walk t n met a) × All (Listed (walk t n met a)) (document ∷ walk t n met a)
+      → Met starts met (a ∷ met)
+      → Met starts (walk t n met a) (walk t n met a)
   unfolding walk
-  walk-met zero met a next fs ls = elim (eq-or-ne a 0) [
-    | inl e ↦ (fs, All-map (at-end met a (rw e tt)) (document ∷ met) ls)
+  walk-met zero starts met a next m = elim (eq-or-ne a 0) [
+    | inl e ↦ at-end starts met a (rw e tt) m
     | inr d ↦ absurd (omega (arith, next d .1))
   ]
-  walk-met (suc n) met a next fs ls = elim (two (among a (0 ∷ met))) [
-    | inl e ↦ rw e (fs, All-map (at-end met a (true-T (among a (0 ∷ met)) e)) (document ∷ met) ls)
+  walk-met (suc n) starts met a next m = elim (two (among a (0 ∷ met))) [
+    | inl e ↦ rw e (at-end starts met a (true-T (among a (0 ∷ met)) e) m)
     | inr new ↦
         let f : Followed t document a × (itemsLeft t met < suc n) = next (λ e. true≢false (rw (eq-eqb a 0 e) at new)) in
-        let rest : All (Listed (listOf t a ∷ a ∷ met)) (document ∷ met) = All-map (λ x l some-list. search or-r) (document ∷ met) ls in
-        rw new (walk-met n (a ∷ met) (listOf t a)
+        rw new (walk-met n starts (a ∷ met) (listOf t a)
         (λ some-list. (list-of (f .0) some-list, omega (arith, items-lt t a met new some-list)))
-        (f .0, fs)
-        (rest .0, (λ some-list. search (or-l, eqb-refl), rest .1)))
+        record {
+          followed = (f .0, m .followed);
+          of-starts = more-listed (listOf t a) (a ∷ met) starts (m .of-starts);
+          of-met = (λ some-list. search (or-l, eqb-refl), more-listed (listOf t a) (a ∷ met) met (m .of-met));
+        })
   ]
 
-  walked : All (Followed t document) (followedLists t document) × All (Listed (followedLists t document)) (document ∷ followedLists t document)
-  walked = walk-met (suc (length (t .items))) [] (listOf t document)
-      (λ some-list. (its-list the-document some-list, omega (arith, left-at-start (length (t .items)))))
-      tt (λ some-list. search (or-l, eqb-refl), tt)
+  -- walk after walk: at the beginning of each, the start's list is next
+  walks-met : (starts : List ℕ) → All (Start t document) starts → Met starts (listsFrom t starts) (listsFrom t starts)
+  walks-met [] each = record { followed = tt; of-starts = tt; of-met = tt }
+  walks-met (d ∷ starts) each =
+      let met : List ℕ = listsFrom t starts in
+      let m : Met starts met met = walks-met starts (each .1) in
+      walk-met (suc (length (t .items))) (d ∷ starts) met (listOf t d)
+      (λ some-list. (its-list (each .0) some-list, omega (arith, left-at-most (length (t .items)) met)))
+      record {
+        followed = m .followed;
+        of-starts = (λ some-list. search (or-l, eqb-refl), more-listed (listOf t d) met starts (m .of-starts));
+        of-met = more-listed (listOf t d) met met (m .of-met);
+      }
+
+  -- `startsOf` has the starts, and them alone.
+  starts-only : All (Start t document) (startsOf t document)
+  starts-only = (the-document, tt)
+
+  pub start-among : {d : ℕ} → Start t document d → T (among d (startsOf t document))
+  start-among the-document = search (or-l, eqb-refl)
+
+  walked : Met (startsOf t document) (followedLists t document) (followedLists t document)
+  walked = walks-met (startsOf t document) starts-only
 
   pub walked-followed : (a : ℕ) → T (among a (followedLists t document)) → Followed t document a
-  walked-followed = among-All (Followed t document) (followedLists t document) (walked .0)
+  walked-followed = among-All (Followed t document) (followedLists t document) (walked .followed)
 
   pub followed-walked : (a : ℕ) → Followed t document a → T (among a (followedLists t document))
-  followed-walked _ (its-list the-document some-list) = walked .1 .0 some-list
+  followed-walked _ (its-list {d} s some-list) =
+      among-All (Listed (followedLists t document)) (startsOf t document) (walked .of-starts) d (start-among s) some-list
   followed-walked _ (list-of {a} f some-list) =
-      among-All (Listed (followedLists t document)) (followedLists t document) (walked .1 .1) a (followed-walked a f) some-list
+      among-All (Listed (followedLists t document)) (followedLists t document) (walked .of-met) a (followed-walked a f) some-list

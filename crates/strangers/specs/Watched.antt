@@ -54,7 +54,7 @@ module _ (t : Tables) (document : ℕ) where
     watched-used (Watched.list a) = followed-used a
 
     -- the owner of an item in use is a subject in use
-    pub owner-used : T (subjectUsed (t .subjects) (ownerOf t document))
-    owner-used =
-        let good : GoodItem t document (itemIn (t .items) document) = item-good t well document present in
+    pub owner-used : {i : ℕ} → Watched t document i → T (subjectUsed (t .subjects) (ownerOf t i))
+    owner-used {i} w =
+        let good : GoodItem t i (itemIn (t .items) i) = item-good t well i (watched-used w) in
         search (and-l, and-r)

@@ -1,8 +1,8 @@
 -- A climb to the root of a tree, step by step.
 use mathlib.Core.Bool.{Bool, false, _&&_}
 use mathlib.Core.Logic.{inl, inr}
-use mathlib.Core.Path.{_≡_, refl, sym, _∙_}
-use Prim.Native.Nat.{ℕ, zero, suc, _<_, _≤_}
+use mathlib.Core.Path.{_≡_, refl, _∙_}
+use Prim.Native.Nat.{ℕ, _<_, _≤_}
 use native.Mathlib.Omega.{arith}
 use borrow.Author.Tests.{lt-ltb, le-ltb, eq-eqb, ne-eqb}
 use lib.Dec.{eqb, ltb}
@@ -27,14 +27,6 @@ module _ (up : ℕ → ℕ) (h s : ℕ) where
 
   pub climbed-up : (at p : ℕ) → Climbed at → h < at → p ≡ up at → p < at → Climbed p
   climbed-up at p c l e low = record { same-question = rw (step at c l, ← e, lt-ltb p at low) }
-
-  -- a step to the custodian is the last one
-  pub climbed-last : (at : ℕ) (b : Bool) → Climbed at → h < at → up at ≡ 0 → b ≡ eqb h 0 → b ≡ inTree up h s
-  climbed-last at b c l last e = e ∙ sym (step at c l ∙ rw (last, lt-ltb 0 at (omega arith)) (lowest h))
-    where
-      lowest : (h : ℕ) → inTree up h 0 ≡ eqb h 0
-      lowest zero = tree-up up 0 0 ∙ refl
-      lowest (suc h) = tree-below up (suc h) 0 (omega arith) ∙ sym (ne-eqb (suc h) 0 (λ z. omega arith))
 
   pub climbed-there : (at : ℕ) (b : Bool) → Climbed at → at ≤ h → b ≡ eqb at h → b ≡ inTree up h s
   climbed-there at b c l e =

@@ -1,9 +1,9 @@
 // Items by number.
 ghost use mathlib.Core.Path.{_≡_};
 ghost use Rattle.model.specs.Image.{tablesBy, itemUsed, isList, noneOrList};
-use codec::read_rows::item_at;
 use model::Item;
 use model::Layout;
+use rows::read::item_at;
 
 pub fn item_used(image: &[u8], layout: Layout, item: Item) -> bool
     ensures { λ r. ⌜ r ≡ itemUsed (tablesBy layout (now (image .entry)) .items) (item .0) ⌝ }

@@ -1,15 +1,21 @@
 -- `changing_grants::remove_grant` meets its contract: the answer at each return, and by it the image.
 use borrow.Author.Needs.{needs}
-use Rattle.changing_grants.specs.Grants.{grant-cut}
-use Rattle.model.specs.Questions.{questions}
 use Rattle.model.specs.Calls.{made}
-use Rattle.spots.specs.SpotLaws.{spot-number}
-use Rattle.laws.specs.Acts.{act-image, act-no, act-done, also, kept}
+use Rattle.laws.specs.Opens.{refused-not}
+use Rattle.laws.specs.Acts.{act-image, act-no, act-passed, also, kept}
+use Rattle.store.specs.Calls.{remove-number, remove-not, remove-passed}
+use Rattle.changing_grants.specs.Grants.{grant-cut}
 use Rattle.changing_grants.proofs.remove_grant.Statement.{statement}
 use Rattle.changing_grants.proofs.remove_grant.Tie as tie
 
-check-requires : tie.Need-check-requires
-check-requires c κs = search needs
+open-requires : tie.Need-open-requires
+open-requires c κs = search needs
+
+enum-known-opened : tie.Need-enum-known-opened
+enum-known-opened c = search needs
+
+enum-known-opened-2 : tie.Need-enum-known-opened-2
+enum-known-opened-2 c = search needs
 
 refused-requires : tie.Need-refused-requires
 refused-requires c κs = search needs
@@ -18,55 +24,56 @@ same-length : tie.Need-same-length
 same-length c = search needs
 
 returns : tie.Need-returns
-returns c = also _ _ _ _ (search act-image) (λ h. search kept)
+returns c = also _ _ _ _ (search act-image) (λ h. search (kept, refused-not))
 
-layout-of-requires : tie.Need-layout-of-requires
-layout-of-requires c κs = search needs
+remove-grant-removing-requires : tie.Need-remove-grant-removing-requires
+remove-grant-removing-requires c κs = search needs
 
-remove-grant-spot-requires : tie.Need-remove-grant-spot-requires
-remove-grant-spot-requires c κs = search needs
-
-refusal-requires : tie.Need-refusal-requires
-refusal-requires c κs = search needs
+enum-known-asked : tie.Need-enum-known-asked
+enum-known-asked c = search needs
 
 refused-requires-2 : tie.Need-refused-requires-2
 refused-requires-2 c κs = search needs
+
+enum-known-asked-2 : tie.Need-enum-known-asked-2
+enum-known-asked-2 c = search needs
+
+take-grant-requires : tie.Need-take-grant-requires
+take-grant-requires c κs = search needs
+
+done-requires : tie.Need-done-requires
+done-requires c κs = search needs
 
 same-length-2 : tie.Need-same-length-2
 same-length-2 c = search needs
 
 returns-2 : tie.Need-returns-2
-unfolding questions
-returns-2 c = also _ _ _ _ (search (act-no, spot-number)) (λ h. search kept)
-
-take-at-requires : tie.Need-take-at-requires
-take-at-requires c κs = search needs
-
-done-requires : tie.Need-done-requires
-done-requires c κs = search needs
+returns-2 c = also _ _ _ _ (search (act-no, remove-number, remove-not)) (λ h. search (kept, remove-not))
 
 same-length-3 : tie.Need-same-length-3
 same-length-3 c = search needs
 
 returns-3 : tie.Need-returns-3
-unfolding questions made
-returns-3 c = also _ _ _ _ (search (act-done, spot-number)) (λ h. search grant-cut)
+unfolding made
+returns-3 c = also _ _ _ _ (search (act-passed, remove-passed)) (λ h. search grant-cut)
 
 pub remove-grant-spec : {M : Type 1} → statement M
 remove-grant-spec =
     tie.close
     (tie.spec
-    check-requires
+    open-requires
+    enum-known-opened
+    enum-known-opened-2
     refused-requires
     same-length
     returns
-    layout-of-requires
-    remove-grant-spot-requires
-    refusal-requires
+    remove-grant-removing-requires
+    enum-known-asked
     refused-requires-2
+    enum-known-asked-2
+    take-grant-requires
+    done-requires
     same-length-2
     returns-2
-    take-at-requires
-    done-requires
     same-length-3
     returns-3)

@@ -1,13 +1,20 @@
 -- `changing_items::bind` meets its contract: the answer at each return, and by it the image.
 use borrow.Author.Needs.{needs}
 use Rattle.model.specs.Calls.{made}
+use Rattle.laws.specs.Opens.{refused-not}
+use Rattle.laws.specs.Acts.{act-image, act-no, act-done, also, kept}
 use Rattle.changing_items.specs.Items.{item-bound}
-use Rattle.laws.specs.Acts.{act-image, act-no, also, kept, act-done}
 use Rattle.changing_items.proofs.bind.Statement.{statement}
 use Rattle.changing_items.proofs.bind.Tie as tie
 
-check-requires : tie.Need-check-requires
-check-requires c κs = search needs
+open-requires : tie.Need-open-requires
+open-requires c κs = search needs
+
+enum-known-opened : tie.Need-enum-known-opened
+enum-known-opened c = search needs
+
+enum-known-opened-2 : tie.Need-enum-known-opened-2
+enum-known-opened-2 c = search needs
 
 refused-requires : tie.Need-refused-requires
 refused-requires c κs = search needs
@@ -16,10 +23,7 @@ same-length : tie.Need-same-length
 same-length c = search needs
 
 returns : tie.Need-returns
-returns c = also _ _ _ _ (search act-image) (λ h. search kept)
-
-layout-of-requires : tie.Need-layout-of-requires
-layout-of-requires c κs = search needs
+returns c = also _ _ _ _ (search act-image) (λ h. search (kept, refused-not))
 
 bind-refusal-requires : tie.Need-bind-refusal-requires
 bind-refusal-requires c κs = search needs
@@ -50,11 +54,12 @@ pub bind-spec : {M : Type 1} → statement M
 bind-spec =
     tie.close
     (tie.spec
-    check-requires
+    open-requires
+    enum-known-opened
+    enum-known-opened-2
     refused-requires
     same-length
     returns
-    layout-of-requires
     bind-refusal-requires
     refused-requires-2
     same-length-2

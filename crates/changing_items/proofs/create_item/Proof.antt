@@ -1,12 +1,19 @@
 -- `changing_items::create_item` meets its contract: the answer at each return, and by it the image.
 use borrow.Author.Needs.{needs}
+use Rattle.laws.specs.Opens.{refused-not}
+use Rattle.laws.specs.Acts.{act-image, act-no, act-done, also, kept}
 use Rattle.changing_items.specs.Items.{made-item, number-fits, item-created}
-use Rattle.laws.specs.Acts.{act-image, act-no, also, kept, act-done}
 use Rattle.changing_items.proofs.create_item.Statement.{statement}
 use Rattle.changing_items.proofs.create_item.Tie as tie
 
-check-requires : tie.Need-check-requires
-check-requires c κs = search needs
+open-requires : tie.Need-open-requires
+open-requires c κs = search needs
+
+enum-known-opened : tie.Need-enum-known-opened
+enum-known-opened c = search needs
+
+enum-known-opened-2 : tie.Need-enum-known-opened-2
+enum-known-opened-2 c = search needs
 
 refused-requires : tie.Need-refused-requires
 refused-requires c κs = search needs
@@ -15,10 +22,7 @@ same-length : tie.Need-same-length
 same-length c = search needs
 
 returns : tie.Need-returns
-returns c = also _ _ _ _ (search act-image) (λ h. search kept)
-
-layout-of-requires : tie.Need-layout-of-requires
-layout-of-requires c κs = search needs
+returns c = also _ _ _ _ (search act-image) (λ h. search (kept, refused-not))
 
 create-refusal-requires : tie.Need-create-refusal-requires
 create-refusal-requires c κs = search needs
@@ -54,11 +58,12 @@ pub create-item-spec : {M : Type 1} → statement M
 create-item-spec =
     tie.close
     (tie.spec
-    check-requires
+    open-requires
+    enum-known-opened
+    enum-known-opened-2
     refused-requires
     same-length
     returns
-    layout-of-requires
     create-refusal-requires
     refused-requires-2
     same-length-2

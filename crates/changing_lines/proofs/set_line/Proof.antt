@@ -1,15 +1,21 @@
 -- `changing_lines::set_line` meets its contract: the answer at each return, and by it the image.
 use borrow.Author.Needs.{needs}
-use Rattle.spots.specs.SpotLaws.{spot-number}
-use Rattle.laws.specs.Acts.{act-image, act-no, act-done, also, kept}
 use Rattle.model.specs.Calls.{made}
-use Rattle.model.specs.Questions.{questions}
+use Rattle.laws.specs.Opens.{refused-not}
+use Rattle.laws.specs.Acts.{act-image, act-no, act-passed, also, kept}
+use Rattle.store.specs.Calls.{store-number, store-not, store-passed}
 use Rattle.changing_lines.specs.Lines.{line-set}
 use Rattle.changing_lines.proofs.set_line.Statement.{statement}
 use Rattle.changing_lines.proofs.set_line.Tie as tie
 
-check-requires : tie.Need-check-requires
-check-requires c κs = search needs
+open-requires : tie.Need-open-requires
+open-requires c κs = search needs
+
+enum-known-opened : tie.Need-enum-known-opened
+enum-known-opened c = search needs
+
+enum-known-opened-2 : tie.Need-enum-known-opened-2
+enum-known-opened-2 c = search needs
 
 refused-requires : tie.Need-refused-requires
 refused-requires c κs = search needs
@@ -18,59 +24,60 @@ same-length : tie.Need-same-length
 same-length c = search needs
 
 returns : tie.Need-returns
-returns c = also _ _ _ _ (search act-image) (λ h. search kept)
+returns c = also _ _ _ _ (search act-image) (λ h. search (kept, refused-not))
 
-layout-of-requires : tie.Need-layout-of-requires
-layout-of-requires c κs = search needs
+set-line-storing-requires : tie.Need-set-line-storing-requires
+set-line-storing-requires c κs = search needs
 
-set-line-spot-requires : tie.Need-set-line-spot-requires
-set-line-spot-requires c κs = search needs
-
-refusal-requires : tie.Need-refusal-requires
-refusal-requires c κs = search needs
+enum-known-asked : tie.Need-enum-known-asked
+enum-known-asked c = search needs
 
 refused-requires-2 : tie.Need-refused-requires-2
 refused-requires-2 c κs = search needs
+
+enum-known-asked-2 : tie.Need-enum-known-asked-2
+enum-known-asked-2 c = search needs
+
+new-requires : tie.Need-new-requires
+new-requires c κs = search needs
+
+store-line-requires : tie.Need-store-line-requires
+store-line-requires c κs = search needs
+
+done-requires : tie.Need-done-requires
+done-requires c κs = search needs
 
 same-length-2 : tie.Need-same-length-2
 same-length-2 c = search needs
 
 returns-2 : tie.Need-returns-2
-unfolding questions
-returns-2 c = also _ _ _ _ (search (act-no, spot-number)) (λ h. search kept)
-
-new-requires : tie.Need-new-requires
-new-requires c κs = search needs
-
-store-at-requires : tie.Need-store-at-requires
-store-at-requires c κs = search needs
-
-done-requires : tie.Need-done-requires
-done-requires c κs = search needs
+returns-2 c = also _ _ _ _ (search (act-no, store-number, store-not)) (λ h. search (kept, store-not))
 
 same-length-3 : tie.Need-same-length-3
 same-length-3 c = search needs
 
 returns-3 : tie.Need-returns-3
-unfolding questions made
-returns-3 c = also _ _ _ _ (search (act-done, spot-number)) (λ h. search line-set)
+unfolding made
+returns-3 c = also _ _ _ _ (search (act-passed, store-passed)) (λ h. search line-set)
 
 pub set-line-spec : {M : Type 1} → statement M
 set-line-spec =
     tie.close
     (tie.spec
-    check-requires
+    open-requires
+    enum-known-opened
+    enum-known-opened-2
     refused-requires
     same-length
     returns
-    layout-of-requires
-    set-line-spot-requires
-    refusal-requires
+    set-line-storing-requires
+    enum-known-asked
     refused-requires-2
+    enum-known-asked-2
+    new-requires
+    store-line-requires
+    done-requires
     same-length-2
     returns-2
-    new-requires
-    store-at-requires
-    done-requires
     same-length-3
     returns-3)

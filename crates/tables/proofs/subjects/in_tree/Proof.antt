@@ -1,9 +1,9 @@
--- `tables::subjects::in_tree` meets its contract: each step up leaves the question as it was, a row of zeros leads to the custodian, and below the root the answer is no.
+-- `tables::subjects::in_tree` meets its contract: each step up leaves the question as it was, and below the root the answer is no.
 use native.Mathlib.Omega.{arith}
 use borrow.Author.Needs.{needs}
 use Rattle.model.specs.Image.{tablesBy, parentIn}
-use Rattle.tables.specs.Rows.{parent-outside}
-use Rattle.tables.specs.Climbs.{Climbed, climbed-none, climbed-out, climbed-up, climbed-last, climbed-there}
+use Rattle.tables.specs.Rows.{parent-among}
+use Rattle.tables.specs.Climbs.{Climbed, climbed-none, climbed-out, climbed-up, climbed-there}
 use Rattle.tables.proofs.subjects.in_tree.Statement.{statement}
 use Rattle.tables.proofs.subjects.in_tree.Tie as tie
 
@@ -13,41 +13,28 @@ Inv-loop image layout root rows at₀ at = Climbed (parentIn (tablesBy layout im
 abbrev μ-loop : tie.MeasureT-loop
 μ-loop image layout root rows at₀ at = at .0
 
-subjects-inside-requires : tie.Need-subjects-inside-requires Inv-loop μ-loop
-subjects-inside-requires c κs = search needs
+subject-rows-requires : tie.Need-subject-rows-requires Inv-loop μ-loop
+subject-rows-requires c κs = search needs
 
 loop-holds : tie.Need-loop-holds Inv-loop μ-loop
 loop-holds c = search climbed-none
 
+subject-among-requires : tie.Need-subject-among-requires Inv-loop μ-loop
+subject-among-requires c κs = search needs
+
 returns : tie.Need-returns Inv-loop μ-loop
-returns c = search (climbed-last, parent-outside)
-
-parent-inside-requires : tie.Need-parent-inside-requires Inv-loop μ-loop
-parent-inside-requires c κs = omega arith
-
-returns-2 : tie.Need-returns-2 Inv-loop μ-loop
-returns-2 c = search climbed-out
+returns c = search (climbed-out, parent-among)
 
 loop-less : tie.Need-loop-less Inv-loop μ-loop
 loop-less c = omega arith
 
 loop-again : tie.Need-loop-again Inv-loop μ-loop
-loop-again c = search climbed-up
+loop-again c = search (climbed-up, parent-among)
 
-returns-3 : tie.Need-returns-3 Inv-loop μ-loop
-returns-3 c = search climbed-there
+returns-2 : tie.Need-returns-2 Inv-loop μ-loop
+returns-2 c = search climbed-there
 
 pub in-tree-spec : {M : Type 1} → statement M
 in-tree-spec =
     tie.close
-    (tie.spec
-    Inv-loop
-    μ-loop
-    subjects-inside-requires
-    loop-holds
-    returns
-    parent-inside-requires
-    returns-2
-    loop-less
-    loop-again
-    returns-3)
+    (tie.spec Inv-loop μ-loop subject-rows-requires loop-holds subject-among-requires returns loop-less loop-again returns-2)

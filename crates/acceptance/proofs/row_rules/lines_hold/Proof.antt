@@ -1,0 +1,72 @@
+-- `acceptance::row_rules::lines_hold` meets its contract: the rows passed all hold their rules and ascend, and the question is left of those after the last one.
+use Prim.Native.Nat.{_-_}
+use native.Mathlib.Omega.{arith}
+use borrow.Author.Needs.{needs}
+use Rattle.model.specs.Image.{tablesBy, widthOf, lineFormat, noLine, lineRules, lineKey, linesHold}
+use Rattle.acceptance.specs.Passes.{Ascends, ascends-none, ascends-broken, ascends-other, ascends-next, ascends-all}
+use Rattle.acceptance.specs.Rules.{line-follows}
+use Rattle.acceptance.proofs.row_rules.lines_hold.Statement.{statement}
+use Rattle.acceptance.proofs.row_rules.lines_hold.Tie as tie
+
+abbrev Inv-loop : tie.InvT-loop
+Inv-loop image layout used last₀ n₀ last n = Ascends (lineFormat (widthOf layout)) (layout .lines) image noLine (lineRules (tablesBy layout image .subjects) (tablesBy layout image .items)) lineKey n last
+
+abbrev μ-loop : tie.MeasureT-loop
+μ-loop image layout used last₀ n₀ last n = used - n
+
+new-requires : tie.Need-new-requires Inv-loop μ-loop
+new-requires c κs = search needs
+
+loop-holds : tie.Need-loop-holds Inv-loop μ-loop
+loop-holds c = search (ascends-none, line-follows)
+
+line-at-requires : tie.Need-line-at-requires Inv-loop μ-loop
+line-at-requires c κs = search needs
+
+line-fits-requires : tie.Need-line-fits-requires Inv-loop μ-loop
+line-fits-requires c κs = search needs
+
+returns : tie.Need-returns Inv-loop μ-loop
+unfolding linesHold tablesBy
+returns c = search ascends-broken
+
+line-before-requires : tie.Need-line-before-requires Inv-loop μ-loop
+line-before-requires c κs = search needs
+
+returns-2 : tie.Need-returns-2 Inv-loop μ-loop
+unfolding linesHold tablesBy
+returns-2 c = search ascends-other
+
+-- that the numbers of a layout fit lies too far back for `omega` to find
+add-n : tie.Need-add-n Inv-loop μ-loop
+add-n c =
+    let layout-fits = c .before .before .before .before .before .before .before .before .before .before .good .1 .0 in
+    omega arith
+
+loop-less : tie.Need-loop-less Inv-loop μ-loop
+loop-less c = omega arith
+
+loop-again : tie.Need-loop-again Inv-loop μ-loop
+loop-again c = search ascends-next
+
+returns-3 : tie.Need-returns-3 Inv-loop μ-loop
+unfolding linesHold tablesBy
+returns-3 c = search ascends-all
+
+pub lines-hold-spec : {M : Type 1} → statement M
+lines-hold-spec =
+    tie.close
+    (tie.spec
+    Inv-loop
+    μ-loop
+    new-requires
+    loop-holds
+    line-at-requires
+    line-fits-requires
+    returns
+    line-before-requires
+    returns-2
+    add-n
+    loop-less
+    loop-again
+    returns-3)

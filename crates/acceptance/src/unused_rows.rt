@@ -1,0 +1,58 @@
+// Question 7: the bytes of rows that are not in use.
+ghost use mathlib.Core.Path.{_≡_};
+ghost use Prim.Native.Nat.{_-_};
+ghost use lib.ListN.{take, drop};
+ghost use Rattle.model.specs.Lists.{allOf, zeros};
+ghost use Rattle.model.specs.Image.{unusedRules};
+use model::Layout;
+use rows::sizes::grant_place;
+use rows::sizes::item_place;
+use rows::sizes::line_place;
+use rows::sizes::subject_place;
+
+pub fn unused_is_zero(image: &[u8], layout: Layout) -> bool
+    ensures { λ r. ⌜ r ≡ allOf (unusedRules layout (now (image .entry))) ⌝ }
+{
+    let subjects = layout.subjects;
+    let grants = layout.grants;
+    let lines = layout.lines;
+    let items = layout.items;
+    if !zero_between(
+        image,
+        subject_place(layout, subjects.used),
+        subjects.end as usize,
+    ) {
+        return false;
+    }
+    if !zero_between(image, grant_place(layout, grants.used), grants.end as usize) {
+        return false;
+    }
+    if !zero_between(image, line_place(layout, lines.used), lines.end as usize) {
+        return false;
+    }
+    zero_between(image, item_place(layout, items.used), items.end as usize)
+}
+
+// Bytes that run past the end of the image are none.
+fn zero_between(image: &[u8], from: usize, to: usize) -> bool
+    ensures { λ r. ⌜ r ≡ zeros (take (to - from) (drop from (now (image .entry)))) ⌝ }
+{
+    let end = if to <= image.len() { to } else { image.len() };
+    if end <= from {
+        return true;
+    }
+    is_zero(&image[from..end])
+}
+
+// Every byte is looked at: a pass that may end at any byte could not take many at once.
+fn is_zero(bytes: &[u8]) -> bool
+    ensures { λ r. ⌜ r ≡ zeros (now (bytes .entry)) ⌝ }
+{
+    let mut seen = 0;
+    let mut n = 0;
+    while n < bytes.len() {
+        seen = seen | bytes[n];
+        n += 1;
+    }
+    seen == 0
+}

@@ -1,0 +1,62 @@
+-- `asking::editor::find_editor` meets its contract: one question after the other, and then the search.
+use borrow.Author.Needs.{needs}
+use Rattle.asking.specs.EditorAnswers.{editor-image, editor-no-list, editor-none, editor-found}
+use Rattle.asking.proofs.editor.find_editor.Statement.{statement}
+use Rattle.asking.proofs.editor.find_editor.Tie as tie
+
+open-requires : tie.Need-open-requires
+open-requires c κs = search needs
+
+enum-known-opened : tie.Need-enum-known-opened
+enum-known-opened c = search needs
+
+enum-known-opened-2 : tie.Need-enum-known-opened-2
+enum-known-opened-2 c = search needs
+
+refused-requires : tie.Need-refused-requires
+refused-requires c κs = search needs
+
+returns : tie.Need-returns
+returns c = search editor-image
+
+is-list-requires : tie.Need-is-list-requires
+is-list-requires c κs = search needs
+
+refused-requires-2 : tie.Need-refused-requires-2
+refused-requires-2 c κs = search needs
+
+returns-2 : tie.Need-returns-2
+returns-2 c = search editor-no-list
+
+some-editor-requires : tie.Need-some-editor-requires
+some-editor-requires c κs = search needs
+
+refused-requires-3 : tie.Need-refused-requires-3
+refused-requires-3 c κs = search needs
+
+returns-3 : tie.Need-returns-3
+returns-3 c = search editor-none
+
+done-requires : tie.Need-done-requires
+done-requires c κs = search needs
+
+returns-4 : tie.Need-returns-4
+returns-4 c = search editor-found
+
+pub find-editor-spec : {M : Type 1} → statement M
+find-editor-spec =
+    tie.close
+    (tie.spec
+    open-requires
+    enum-known-opened
+    enum-known-opened-2
+    refused-requires
+    returns
+    is-list-requires
+    refused-requires-2
+    returns-2
+    some-editor-requires
+    refused-requires-3
+    returns-3
+    done-requires
+    returns-4)

@@ -1,0 +1,38 @@
+-- `asking::sets::check_image` meets its contract: opened, there is nothing more to ask.
+use borrow.Author.Needs.{needs}
+use Rattle.laws.specs.Asks.{ask-image, check-done}
+use Rattle.asking.proofs.sets.check_image.Statement.{statement}
+use Rattle.asking.proofs.sets.check_image.Tie as tie
+
+open-requires : tie.Need-open-requires
+open-requires c κs = search needs
+
+enum-told : tie.Need-enum-told
+enum-told c = search needs
+
+done-requires : tie.Need-done-requires
+done-requires c κs = search needs
+
+enum-known-opened : tie.Need-enum-known-opened
+enum-known-opened c = search needs
+
+refused-requires : tie.Need-refused-requires
+refused-requires c κs = search needs
+
+returns : tie.Need-returns
+returns c = search check-done
+
+returns-2 : tie.Need-returns-2
+returns-2 c = search ask-image
+
+pub check-image-spec : {M : Type 1} → statement M
+check-image-spec =
+    tie.close
+    (tie.spec
+    open-requires
+    enum-told
+    done-requires
+    enum-known-opened
+    refused-requires
+    returns
+    returns-2)

@@ -1,0 +1,72 @@
+-- `asking::sets::permission_set` meets its contract: one question after the other, and then the set.
+use borrow.Author.Needs.{needs}
+use Rattle.laws.specs.Answers.{asked-no, asked-yes, asked-all}
+use Rattle.laws.specs.Asks.{ask-image, ask-no, ask-done}
+use Rattle.model.specs.Calls.{told}
+use Rattle.model.specs.Questions.{askQuestions}
+use Rattle.asking.proofs.sets.permission_set.Statement.{statement}
+use Rattle.asking.proofs.sets.permission_set.Tie as tie
+
+open-requires : tie.Need-open-requires
+open-requires c κs = search needs
+
+enum-known-opened : tie.Need-enum-known-opened
+enum-known-opened c = search needs
+
+enum-known-opened-2 : tie.Need-enum-known-opened-2
+enum-known-opened-2 c = search needs
+
+refused-requires : tie.Need-refused-requires
+refused-requires c κs = search needs
+
+returns : tie.Need-returns
+returns c = search ask-image
+
+subject-used-requires : tie.Need-subject-used-requires
+subject-used-requires c κs = search needs
+
+refused-requires-2 : tie.Need-refused-requires-2
+refused-requires-2 c κs = search needs
+
+returns-2 : tie.Need-returns-2
+unfolding askQuestions
+returns-2 c = search (ask-no, asked-no)
+
+item-used-requires : tie.Need-item-used-requires
+item-used-requires c κs = search needs
+
+refused-requires-3 : tie.Need-refused-requires-3
+refused-requires-3 c κs = search needs
+
+returns-3 : tie.Need-returns-3
+unfolding askQuestions
+returns-3 c = search (ask-no, asked-yes, asked-no)
+
+permissions-requires : tie.Need-permissions-requires
+permissions-requires c κs = search needs
+
+done-requires : tie.Need-done-requires
+done-requires c κs = search needs
+
+returns-4 : tie.Need-returns-4
+unfolding askQuestions told
+returns-4 c = search (ask-done, asked-yes, asked-all)
+
+pub permission-set-spec : {M : Type 1} → statement M
+permission-set-spec =
+    tie.close
+    (tie.spec
+    open-requires
+    enum-known-opened
+    enum-known-opened-2
+    refused-requires
+    returns
+    subject-used-requires
+    refused-requires-2
+    returns-2
+    item-used-requires
+    refused-requires-3
+    returns-3
+    permissions-requires
+    done-requires
+    returns-4)

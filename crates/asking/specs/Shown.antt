@@ -1,0 +1,240 @@
+-- Lines of a list: the rows that are shown, their count, and the bytes of the image that they are.
+use mathlib.Core.Bool.{Bool, true, false, not, _&&_, and-false}
+use mathlib.Core.List.{List, []}
+use mathlib.Core.Path.{_≡_, refl, sym, ap, _∙_}
+use Prim.Native.Nat.{ℕ, zero, suc, _+_, _-_, _*_, _<_, _≤_}
+use native.Mathlib.Nat.{zero-add, mul-le-mul-right, add-mul}
+use native.Mathlib.Omega.{arith}
+use borrow.Author.Tests.{eq-eqb, ne-eqb}
+use lib.Dec.{T, eqb}
+use lib.ListN.{length, take, drop, length-drop}
+use Rattle.model.specs.declared.Answer.{Answer}
+use Rattle.model.specs.declared.Layout.{Layout}
+use Rattle.model.specs.declared.Opened.{Opened}
+use Rattle.model.specs.declared.Opened.the-variants.{With, Refused}
+use Rattle.asking.specs.declared.list_rows.ListRows.{ListRows}
+use Rattle.asking.specs.declared.list_rows.ListRows.the-variants.{Rows}
+use Rattle.asking.specs.declared.list_rows.ListRows.the-variants as list
+use Rattle.model.specs.Lists.{every}
+use Rattle.model.specs.Sorted.{place, ascending}
+use Rattle.model.specs.Image.{layoutOf, tablesBy, tables, size, lineFormat, widthOf, isList, lineKey, lineRules, linesHold}
+use Rattle.model.specs.Calls.{rowsOf, rowsBefore, told}
+use Rattle.model.specs.Calls.Ask.{countLines}
+use Rattle.model.specs.Questions.{answer, check, opened, ask, askQuestions, imageQuestions, shows, partStart, partLength, partBytes}
+use Rattle.laws.specs.Tests.{and-r}
+use Rattle.laws.specs.WellFormed.{Passed}
+use Rattle.laws.specs.Answers.{asked-no, asked-yes, asked-all, image-passed}
+use Rattle.laws.specs.Sorted.{place-le}
+use Rattle.laws.specs.Rows.{rows-count, line-lawful}
+use Rattle.laws.specs.Blocks.{starts-before-end, rows-extent}
+use Rattle.laws.specs.Laid.{Laid, laid, lines-inside}
+use Rattle.laws.specs.Opens.{refused-by, opened-with, layout-with}
+use Rattle.laws.specs.Asks.{ask-image, ask-no, ask-done}
+use Rattle.asking.specs.Runs.{lowest, leading, leading-few, run-begins, run-counts}
+
+-- the bytes of a line
+abbrev lineSize : List ℕ → ℕ
+lineSize img = size (lineFormat (widthOf (layoutOf img)))
+
+-- The refusal number, the first row and the row before which they end. Refused, there are no rows.
+pub record Shown (img : List ℕ) (a number first end : ℕ) : Type 0 where
+  pub answers : answer number (end - first) ≡ ask img (countLines a)
+  pub ordered : first ≤ end
+  pub refused-none : (number ≡ 0 → ⊥) → end ≡ first
+  pub begins : number ≡ 0 → first ≡ length (rowsBefore a (tables img .lines))
+  pub counts : number ≡ 0 → end ≡ first + length (rowsOf a (tables img .lines))
+  pub inside : number ≡ 0 → layoutOf img .lines .start + end * lineSize img ≤ length img
+
+none-shown : (img : List ℕ) (a k : ℕ) → (k ≡ 0 → ⊥) → answer k 0 ≡ ask img (countLines a) → Shown img a k 0 0
+none-shown img a k h e =
+    record {
+      answers = e;
+      ordered = omega arith;
+      refused-none = λ d. refl;
+      begins = λ z. absurd (h z);
+      counts = λ z. absurd (h z);
+      inside = λ z. absurd (h z);
+    }
+
+-- where an image is accepted its lines ascend, and the rows in use end inside
+lines-ascend : (img : List ℕ) → check img ≡ 0 → T (ascending lineKey (tables img .lines))
+unfolding imageQuestions linesHold
+lines-ascend img ok =
+    let passed : Passed (imageQuestions img) = image-passed img ok in
+    and-r (every (lineRules (tables img .subjects) (tables img .items)) (tables img .lines)) (ascending lineKey (tables img .lines)) (passed .1 .1 .1 .1 .0)
+
+lines-end : (img : List ℕ) (n : ℕ) → check img ≡ 0 → n ≤ length (tables img .lines) → layoutOf img .lines .start + n * lineSize img ≤ length img
+unfolding tablesBy
+lines-end img n ok few =
+    let w : ℕ = widthOf (layoutOf img) in
+    let facts : Laid img = laid img ok in
+    let used : n ≤ layoutOf img .lines .used = rw (rows-count (lineFormat w) (layoutOf img .lines) img) at few in
+    let wide : n * lineSize img ≤ layoutOf img .lines .used * lineSize img = mul-le-mul-right (lineSize img) used in
+    let first : layoutOf img .lines .start ≤ layoutOf img .lines .end = starts-before-end (lineFormat w) (line-lawful w) (layoutOf img .lines) img (facts .lines-lie) in
+    let rows : layoutOf img .lines .used * lineSize img ≤ layoutOf img .lines .end - layoutOf img .lines .start =
+    rows-extent (lineFormat w) (line-lawful w) (layoutOf img .lines) img (facts .lines-lie) in
+    let last : layoutOf img .lines .end ≤ length img = lines-inside img facts in
+    within (layoutOf img .lines .start) (layoutOf img .lines .end) (n * lineSize img) (layoutOf img .lines .used * lineSize img) (length img) wide first rows last
+  where
+    within : (s e x y l : ℕ) → x ≤ y → s ≤ e → y ≤ e - s → e ≤ l → s + x ≤ l
+    within s e x y l p q r u = omega arith
+
+-- What the code answers: the rows, by the layout of the image, or the number of the refusal.
+abbrev pub ShownBy : List ℕ → ℕ → ListRows → Type 0
+ShownBy img a (Rows lay first end) = Shown img a 0 first end × (lay ≡ layoutOf img)
+ShownBy img a (list.Refused n) = Shown img a n 0 0 × (n ≡ 0 → ⊥)
+
+-- The rows asked for, return by return. o is what opening the image came to.
+module _ (img : List ℕ) (o : Opened) (is : o ≡ opened img) (a : ℕ) where
+  pub shown-image : (n : ℕ) → o ≡ Refused n → ShownBy img a (list.Refused n)
+  shown-image n case =
+      let bad : n ≡ 0 → ⊥ = refused-by img o is n case .1 in
+      (none-shown img a n bad (ask-image img o is (countLines a) (answer n 0) n case refl), bad)
+
+  module _ (lay : Layout) (case : o ≡ With lay) (b : Bool) (listed : b ≡ isList (tablesBy lay img .items) a) where
+    pub shown-no-list : not b ≡ true → ShownBy img a (list.Refused 13)
+    unfolding askQuestions
+    shown-no-list h =
+        let bad : _≡_ {A = ℕ} 13 0 → ⊥ = λ z. omega arith in
+        (none-shown img a 13 bad (ask-no img o is (countLines a) (answer 13 0) lay case 13 refl (asked-no 13 _ [] b listed h) refl), bad)
+
+    pub shown-rows : (first end : ℕ)
+        → not b ≡ false
+        → first ≡ place lineKey (lowest a) (tablesBy lay img .lines)
+        → end ≡ first + leading a (drop first (tablesBy lay img .lines))
+        → ShownBy img a (Rows lay first end)
+    unfolding askQuestions told
+    shown-rows first end h at to =
+        let accepted : check img ≡ 0 = opened-with img o is lay case .0 in
+        let there : lay ≡ layoutOf img = layout-with img o is lay case in
+        let asc : T (ascending lineKey (tables img .lines)) = lines-ascend img accepted in
+        let first-is : first ≡ place lineKey (lowest a) (tables img .lines) = at ∙ ap (λ (l : Layout). place lineKey (lowest a) (tablesBy l img .lines)) there in
+        let end-is : end ≡ first + leading a (drop (place lineKey (lowest a) (tables img .lines)) (tables img .lines)) =
+        to
+        ∙ ap (λ (l : Layout). first + leading a (drop first (tablesBy l img .lines))) there
+        ∙ ap (λ (k : ℕ). first + leading a (drop k (tables img .lines))) first-is in
+        let count-is : end ≡ first + length (rowsOf a (tables img .lines)) =
+        end-is ∙ ap (λ (k : ℕ). first + k) (run-counts a (tables img .lines) asc) in
+        let told-is : end - first ≡ length (rowsOf a (tables img .lines)) = omega arith in
+        let near : first ≤ length (tables img .lines) = rw first-is (place-le lineKey (lowest a) (tables img .lines)) in
+        let few : leading a (drop (place lineKey (lowest a) (tables img .lines)) (tables img .lines)) ≤ length (tables img .lines) - first =
+        rw first-is (rw (length-drop) at (leading-few a (drop (place lineKey (lowest a) (tables img .lines)) (tables img .lines)))) in
+        let far : end ≤ length (tables img .lines) = omega arith in (
+          record {
+            answers =
+                ask-done img o is (countLines a) (answer 0 (end - first)) lay case (end - first)
+                (asked-yes 13 _ [] b listed 0 h asked-all) (told-is ∙ ap (λ (l : Layout). length (rowsOf a (tablesBy l img .lines))) (sym there)) refl;
+            ordered = omega arith;
+            refused-none = λ d. absurd (d refl);
+            begins = λ z. first-is ∙ run-begins a (tables img .lines) asc;
+            counts = λ z. count-is;
+            inside = λ z. lines-end img end accepted far;
+          },
+          there,
+        )
+
+-- Where they start in the image and how long they are.
+module _ (img : List ℕ) (a number first end : ℕ) (shown : Shown img a number first end) where
+  shows-is : shows img a ≡ (eqb number 0 && not (eqb (end - first) 0))
+  shows-is = rw (← shown .answers)
+
+  module _ (none : end ≤ first) where
+    hidden : shows img a ≡ false
+    hidden =
+        let zero-rows : end - first ≡ 0 = omega arith in
+        shows-is ∙ rw (eq-eqb (end - first) 0 zero-rows) (and-false (eqb number 0))
+
+    none-bytes : [] ≡ partBytes img a
+    unfolding partLength
+    none-bytes = rw hidden
+
+    none-start : 0 ≡ partStart img a
+    unfolding partStart
+    none-start = rw hidden
+
+  module _ (some : first < end) where
+    passed : number ≡ 0
+    passed = go number (shown .refused-none)
+      where
+        go : (k : ℕ) → ((k ≡ 0 → ⊥) → end ≡ first) → k ≡ 0
+        go zero h = refl
+        go (suc k) h = absurd (omega (arith, h (λ z. omega arith)))
+
+    visible : shows img a ≡ true
+    visible = shows-is ∙ rw (eq-eqb number 0 passed, ne-eqb (end - first) 0 (λ z. omega arith))
+
+    some-start : partStart img a ≡ layoutOf img .lines .start + first * lineSize img
+    unfolding partStart
+    some-start = rw (visible, ← shown .begins passed)
+
+    some-length : partLength img a ≡ (end - first) * lineSize img
+    unfolding partLength
+    some-length =
+        let rows : length (rowsOf a (tables img .lines)) ≡ end - first = omega (arith, shown .counts passed) in
+        rw (visible, rows)
+
+-- What the calls tell of them. o is what the code was told, and which case it is.
+module _ (img : List ℕ) (a : ℕ) (o : ListRows) (is : ShownBy img a o) where
+  module _ (n : ℕ) (case : o ≡ list.Refused n) where
+    refused : Shown img a n 0 0 × (n ≡ 0 → ⊥)
+    refused = rw case at is
+
+    pub count-refused : (r : Answer) → r ≡ answer n 0 → r ≡ ask img (countLines a)
+    count-refused r e = e ∙ refused .0 .answers
+
+    pub refused-bytes : [] ≡ partBytes img a
+    refused-bytes = none-bytes img a n 0 0 (refused .0) (omega arith)
+
+    pub refused-start : 0 ≡ partStart img a
+    refused-start = none-start img a n 0 0 (refused .0) (omega arith)
+
+    pub refused-at : (p : ℕ) → p ≡ partStart img a + p
+    refused-at p = rw (← refused-start) (sym (zero-add p))
+
+  module _ (lay : Layout) (first end : ℕ) (case : o ≡ Rows lay first end) where
+    rows : Shown img a 0 first end × (lay ≡ layoutOf img)
+    rows = rw case at is
+
+    pub rows-ordered : first ≤ end
+    rows-ordered = rows .0 .ordered
+
+    pub count-done : (r : Answer) → r ≡ answer 0 (end - first) → r ≡ ask img (countLines a)
+    count-done r e = e ∙ rows .0 .answers
+
+    module _ (none : end ≤ first) where
+      pub no-bytes : [] ≡ partBytes img a
+      no-bytes = none-bytes img a 0 first end (rows .0) none
+
+      pub no-start : 0 ≡ partStart img a
+      no-start = none-start img a 0 first end (rows .0) none
+
+      -- p is where the image stands
+      pub no-at : (p : ℕ) → p ≡ partStart img a + p
+      no-at p = rw (← no-start) (sym (zero-add p))
+
+    module _ (some : first < end) (s : ℕ) (from : s ≡ lay .lines .start + first * size (lineFormat (widthOf lay))) where
+      from-is : s ≡ layoutOf img .lines .start + first * lineSize img
+      from-is = from ∙ ap (λ (l : Layout). l .lines .start + first * size (lineFormat (widthOf l))) (rows .1)
+
+      pub starts-at : s ≡ partStart img a
+      starts-at = from-is ∙ sym (some-start img a 0 first end (rows .0) some)
+
+      pub some-at : (p : ℕ) → s + p ≡ partStart img a + p
+      some-at p = ap (λ (k : ℕ). k + p) starts-at
+
+      module _ (e : ℕ) (to : e ≡ lay .lines .start + end * size (lineFormat (widthOf lay))) where
+        to-is : e ≡ layoutOf img .lines .start + end * lineSize img
+        to-is = to ∙ ap (λ (l : Layout). l .lines .start + end * size (lineFormat (widthOf l))) (rows .1)
+
+        pub some-inside : e ≤ length img
+        some-inside = omega (arith, to-is, rows .0 .inside refl)
+
+        pub some-bytes : take (e - s) (drop s img) ≡ partBytes img a
+        some-bytes =
+            let split : end * lineSize img ≡ first * lineSize img + (end - first) * lineSize img =
+            ap (λ (k : ℕ). k * lineSize img) (sum first end (omega arith)) ∙ add-mul first (end - first) (lineSize img) in
+            let long : e - s ≡ (end - first) * lineSize img = omega (arith, from-is, to-is, split) in
+            rw (some-start img a 0 first end (rows .0) some, some-length img a 0 first end (rows .0) some, ← from-is, long)
+          where
+            sum : (x y : ℕ) → x ≤ y → y ≡ x + (y - x)
+            sum x y h = omega arith

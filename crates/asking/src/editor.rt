@@ -1,0 +1,65 @@
+// The call that asks for somebody who may edit a list.
+ghost use mathlib.Core.Path.{_≡_};
+ghost use Rattle.model.specs.WhoAndWhat.{editList, has};
+ghost use Rattle.model.specs.Image.{tablesBy};
+ghost use Rattle.model.specs.Permission.{permissionSet};
+ghost use Rattle.model.specs.Questions.{EditorAnswer};
+ghost use Rattle.asking.specs.Editors.{Editor};
+use acceptance::open;
+use model::Answer;
+use model::Item;
+use model::Layout;
+use model::Opened;
+use model::SET_LINE;
+use model::SoughtGrant;
+use model::Subject;
+use model::has;
+use model::needed_position;
+use model::refusal;
+use permission::decision::permissions_under;
+use tables::items::is_list;
+
+// Editor search: some subject other than the custodian that may edit the list. Which of several is undecided.
+pub fn find_editor(image: &[u8], list: Item) -> Answer
+    ensures { λ r. ⌜ EditorAnswer (now (image .entry)) (list .0) r ⌝ }
+{
+    let opened = open(image);
+    let layout = match opened {
+        Opened::With(layout) => layout,
+        Opened::Refused(number) => {
+            return Answer::refused(number);
+        }
+    };
+    if !is_list(image, layout, list) {
+        return Answer::refused(refusal::LIST);
+    }
+    let editor = some_editor(image, layout, list);
+    if editor == 0 {
+        return Answer::refused(refusal::NO_EDITOR);
+    }
+    Answer::done(editor)
+}
+
+// The number of a subject other than the custodian that may edit the list; 0, the custodian's, where there is none. Which of several is undecided.
+fn some_editor(image: &[u8], layout: Layout, list: Item) -> u32
+    ensures { λ r. ⌜ Editor (tablesBy layout (now (image .entry))) (list .0) r ⌝ }
+{
+    let table = layout.subjects;
+    let used = table.used;
+    let mut n = 1;
+    while n < used {
+        if may_edit(image, layout, Subject(n), list) {
+            return n;
+        }
+        n += 1;
+    }
+    0
+}
+
+// Without a role, a subject may edit a list.
+fn may_edit(image: &[u8], layout: Layout, subject: Subject, list: Item) -> bool
+    ensures { λ r. ⌜ r ≡ has editList (permissionSet (tablesBy layout (now (image .entry))) (subject .0) 0 (list .0)) ⌝ }
+{
+    let set = permissions_under(image, layout, subject, SoughtGrant::NoGrant, list);
+    has(needed_position(SET_LINE), set)
+}

@@ -1,0 +1,66 @@
+// The rows of one list among the lines of an image.
+ghost use mathlib.Core.Path.{_≡_};
+ghost use Prim.Native.Nat.{_+_};
+ghost use lib.ListN.{drop};
+ghost use Rattle.model.specs.Sorted.{place};
+ghost use Rattle.model.specs.Image.{tablesBy, lineKey};
+ghost use Rattle.asking.specs.Runs.{lowest, leading};
+ghost use Rattle.asking.specs.Shown.{ShownBy};
+use acceptance::open;
+use model::Item;
+use model::Layout;
+use model::LineRow;
+use model::Opened;
+use model::Subject;
+use model::refusal;
+use rows::read::line_at;
+use search::lines::line_rank;
+use tables::items::is_list;
+
+// What asking for the rows of a list comes to: by which layout they lie, the first of them and the one before which they end; or the number of the refusal.
+pub enum ListRows {
+    Rows(Layout, u32, u32),
+    Refused(u32),
+}
+
+pub fn shown_rows(image: &[u8], list: Item) -> ListRows
+    ensures { λ r. ⌜ ShownBy (now (image .entry)) (list .0) r ⌝ }
+{
+    let opened = open(image);
+    let layout = match opened {
+        Opened::With(layout) => layout,
+        Opened::Refused(number) => {
+            return ListRows::Refused(number);
+        }
+    };
+    if !is_list(image, layout, list) {
+        return ListRows::Refused(refusal::LIST);
+    }
+    let first = run_start(image, layout, list);
+    let end = run_end(image, layout, list, first);
+    ListRows::Rows(layout, first, end)
+}
+
+// The row that the list's rows begin at: the place of the lowest key.
+fn run_start(image: &[u8], layout: Layout, list: Item) -> u32
+    ensures { λ r. ⌜ r ≡ place lineKey (lowest (list .0)) (tablesBy layout (now (image .entry)) .lines) ⌝ }
+{
+    line_rank(image, layout, list, LineRow::ITSELF, Subject(0))
+}
+
+// The row before which they end, from the first on: rows are passed as long as they name the list.
+fn run_end(image: &[u8], layout: Layout, list: Item, first: u32) -> u32
+    ensures { λ r. ⌜ r ≡ first + leading (list .0) (drop first (tablesBy layout (now (image .entry)) .lines)) ⌝ }
+{
+    let table = layout.lines;
+    let used = table.used;
+    let mut end = first;
+    while end < used {
+        let row = line_at(image, layout, end);
+        if row.list.0 != list.0 {
+            return end;
+        }
+        end += 1;
+    }
+    end
+}

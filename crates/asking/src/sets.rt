@@ -1,0 +1,63 @@
+// The calls that ask for an image's check and for sets. Each checks the image, asks its own questions, and answers the first no.
+ghost use mathlib.Core.Path.{_≡_};
+ghost use Rattle.model.specs.Calls.Ask.{checkImage, operationSetOf, permissionSetOf};
+ghost use Rattle.model.specs.Questions.{ask};
+use acceptance::open;
+use model::Answer;
+use model::Item;
+use model::Opened;
+use model::Role;
+use model::Subject;
+use model::refusal;
+use permission::decision::operations;
+use permission::decision::permissions;
+use tables::items::item_used;
+use tables::subjects::subject_used;
+
+// Check an image.
+pub fn check_image(image: &[u8]) -> Answer
+    ensures { λ r. ⌜ r ≡ ask (now (image .entry)) checkImage ⌝ }
+{
+    let opened = open(image);
+    match opened {
+        Opened::With(_) => Answer::done(0),
+        Opened::Refused(number) => Answer::refused(number),
+    }
+}
+
+// The operation set of a subject under a role.
+pub fn operation_set(image: &[u8], subject: Subject, role: Role) -> Answer
+    ensures { λ r. ⌜ r ≡ ask (now (image .entry)) (operationSetOf (subject .0) (role .0)) ⌝ }
+{
+    let opened = open(image);
+    let layout = match opened {
+        Opened::With(layout) => layout,
+        Opened::Refused(number) => {
+            return Answer::refused(number);
+        }
+    };
+    if !subject_used(image, layout, subject) {
+        return Answer::refused(refusal::CALLER);
+    }
+    Answer::done(operations(image, layout, subject, role))
+}
+
+// The permission set of a subject under a role on an item.
+pub fn permission_set(image: &[u8], subject: Subject, role: Role, item: Item) -> Answer
+    ensures { λ r. ⌜ r ≡ ask (now (image .entry)) (permissionSetOf (subject .0) (role .0) (item .0)) ⌝ }
+{
+    let opened = open(image);
+    let layout = match opened {
+        Opened::With(layout) => layout,
+        Opened::Refused(number) => {
+            return Answer::refused(number);
+        }
+    };
+    if !subject_used(image, layout, subject) {
+        return Answer::refused(refusal::CALLER);
+    }
+    if !item_used(image, layout, item) {
+        return Answer::refused(refusal::ITEM);
+    }
+    Answer::done(permissions(image, layout, subject, role, item))
+}

@@ -1,0 +1,20 @@
+-- `changing_grants::questions::has_room` meets its contract: one test, and then the other.
+use borrow.Author.Needs.{needs}
+use Rattle.laws.specs.Tests.{or-no, or-yes, told-no, told-yes}
+use Rattle.changing_grants.proofs.questions.has_room.Statement.{statement}
+use Rattle.changing_grants.proofs.questions.has_room.Tie as tie
+
+is-over-requires : tie.Need-is-over-requires
+is-over-requires c κs = search needs
+
+returns : tie.Need-returns
+returns c = search (or-yes, told-yes)
+
+grant-free-requires : tie.Need-grant-free-requires
+grant-free-requires c κs = search needs
+
+returns-2 : tie.Need-returns-2
+returns-2 c = search (or-no, told-no)
+
+pub has-room-spec : {M : Type 1} → statement M
+has-room-spec = tie.close (tie.spec is-over-requires returns grant-free-requires returns-2)

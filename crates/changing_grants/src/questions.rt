@@ -1,0 +1,153 @@
+// The questions of set grant and remove grant, after those of the image. Each function answers the first no, or where the grant goes.
+ghost use mathlib.Core.Bool.{_||_};
+ghost use mathlib.Core.List.{[], _∷_};
+ghost use mathlib.Core.Path.{_≡_};
+ghost use lib.Dec.{eqb, ltb};
+ghost use lib.ListN.{take};
+ghost use Rattle.model.specs.Sorted.{place};
+ghost use Rattle.model.specs.WhoAndWhat.{custodian};
+ghost use Rattle.model.specs.Image.{tablesBy, roomsBy, grantKey};
+ghost use Rattle.model.specs.Calls.Change.{setGrant, removeGrant};
+ghost use Rattle.model.specs.Questions.{questions, firstNo};
+ghost use Rattle.search.specs.Spots.{isOver, spotIn};
+ghost use Rattle.store.specs.Stores.{storing, removing, storingNumber, removingNumber};
+ghost use Rattle.changing_grants.specs.GivenAt.{givenAt, maySet};
+use model::CUSTODIAN;
+use model::Layout;
+use model::Privileges;
+use model::Role;
+use model::Subject;
+use model::refusal;
+use rows::read::grant_at;
+use search::Spot;
+use search::grants::grant_spot;
+use store::Removing;
+use store::Storing;
+use tables::free::grant_free;
+use tables::subjects::in_tree;
+use tables::subjects::subject_used;
+
+// Set grant: where the grant goes.
+pub fn set_grant_storing(
+    image: &[u8],
+    layout: Layout,
+    caller: Subject,
+    receiver: Subject,
+    role: Role,
+    domain: Subject,
+    privileges: Privileges,
+) -> Storing
+    ensures { λ r. ⌜ r ≡ storing (firstNo (questions (tablesBy layout (now (image .entry))) (setGrant (caller .0) (receiver .0) (role .0) (domain .0) privileges))) (spotIn grantKey (receiver .0 ∷ role .0 ∷ []) (tablesBy layout (now (image .entry)) .grants)) ⌝ }
+    ensures { λ r. ⌜ storingNumber r ≡ firstNo (questions (tablesBy layout (now (image .entry))) (setGrant (caller .0) (receiver .0) (role .0) (domain .0) privileges)) ⌝ }
+{
+    let number = named_refusal(image, layout, caller, receiver, role, domain, privileges);
+    if number != 0 {
+        return Storing::Refused(number);
+    }
+    if !in_tree(image, layout, caller, domain) {
+        return Storing::Refused(refusal::TREE);
+    }
+    let spot = grant_spot(image, layout, receiver, role);
+    if !may_set(image, layout, spot, caller) {
+        return Storing::Refused(refusal::NOT_YOURS);
+    }
+    if !has_room(layout, spot) {
+        return Storing::Refused(refusal::FULL);
+    }
+    Storing::At(spot)
+}
+
+// What set grant asks of the numbers that it is given: 10, 11 of two subjects, and 14.
+fn named_refusal(
+    image: &[u8],
+    layout: Layout,
+    caller: Subject,
+    receiver: Subject,
+    role: Role,
+    domain: Subject,
+    privileges: Privileges,
+) -> u32
+    ensures { λ r. ⌜ r ≡ firstNo (take 4 (questions (tablesBy layout (now (image .entry))) (setGrant (caller .0) (receiver .0) (role .0) (domain .0) privileges))) ⌝ }
+{
+    if !subject_used(image, layout, caller) {
+        return refusal::CALLER;
+    }
+    if !subject_used(image, layout, receiver) {
+        return refusal::SUBJECT;
+    }
+    if !subject_used(image, layout, domain) {
+        return refusal::SUBJECT;
+    }
+    if role.0 == 0 {
+        return refusal::RANGE;
+    }
+    0
+}
+
+// Remove grant: which row it is.
+pub fn remove_grant_removing(
+    image: &[u8],
+    layout: Layout,
+    caller: Subject,
+    receiver: Subject,
+    role: Role,
+) -> Removing
+    ensures { λ r. ⌜ r ≡ removing (firstNo (questions (tablesBy layout (now (image .entry))) (removeGrant (caller .0) (receiver .0) (role .0)))) (place grantKey (receiver .0 ∷ role .0 ∷ []) (tablesBy layout (now (image .entry)) .grants)) ⌝ }
+    ensures { λ r. ⌜ removingNumber r ≡ firstNo (questions (tablesBy layout (now (image .entry))) (removeGrant (caller .0) (receiver .0) (role .0))) ⌝ }
+{
+    if !subject_used(image, layout, caller) {
+        return Removing::Refused(refusal::CALLER);
+    }
+    if !subject_used(image, layout, receiver) {
+        return Removing::Refused(refusal::SUBJECT);
+    }
+    if role.0 == 0 {
+        return Removing::Refused(refusal::RANGE);
+    }
+    let spot = grant_spot(image, layout, receiver, role);
+    let Spot::Over(row) = spot else {
+        return Removing::Refused(refusal::NO_ROW);
+    };
+    if !may_remove(image, layout, row, caller) {
+        return Removing::Refused(refusal::NOT_YOURS);
+    }
+    Removing::Row(row)
+}
+
+// A row that is there is its grantor's to overwrite.
+fn may_set(image: &[u8], layout: Layout, spot: Spot, caller: Subject) -> bool
+    ensures { λ r. ⌜ r ≡ maySet (tablesBy layout (now (image .entry)) .grants) (caller .0) spot ⌝ }
+{
+    match spot {
+        Spot::Over(n) => given_by(image, layout, n, caller),
+        Spot::New(_) => true,
+    }
+}
+
+// Only a new row needs a free one: a row that is there is overwritten.
+fn has_room(layout: Layout, spot: Spot) -> bool
+    ensures { λ r. ⌜ r ≡ (isOver spot || ltb (layout .grants .used) (roomsBy layout .grants)) ⌝ }
+{
+    if spot.is_over() {
+        return true;
+    }
+    grant_free(layout)
+}
+
+// The custodian may remove any row.
+fn may_remove(image: &[u8], layout: Layout, n: u32, caller: Subject) -> bool
+    ensures { λ r. ⌜ r ≡ (givenAt (tablesBy layout (now (image .entry)) .grants) (caller .0) n || eqb (caller .0) custodian) ⌝ }
+{
+    if given_by(image, layout, n, caller) {
+        return true;
+    }
+    caller.0 == CUSTODIAN
+}
+
+// Row n is this grantor's.
+fn given_by(image: &[u8], layout: Layout, n: u32, grantor: Subject) -> bool
+    ensures { λ r. ⌜ r ≡ givenAt (tablesBy layout (now (image .entry)) .grants) (grantor .0) n ⌝ }
+{
+    let row = grant_at(image, layout, n);
+    row.grantor.0 == grantor.0
+}

@@ -1,0 +1,52 @@
+-- `changing_items::questions::bind_refusal` meets its contract: one question after the other.
+use borrow.Author.Needs.{needs}
+use Rattle.model.specs.Questions.{questions}
+use Rattle.laws.specs.Answers.{asked-no, asked-yes, asked-all}
+use Rattle.changing_items.proofs.questions.bind_refusal.Statement.{statement}
+use Rattle.changing_items.proofs.questions.bind_refusal.Tie as tie
+
+subject-used-requires : tie.Need-subject-used-requires
+subject-used-requires c κs = search needs
+
+returns : tie.Need-returns
+unfolding questions
+returns c = search asked-no
+
+item-used-requires : tie.Need-item-used-requires
+item-used-requires c κs = search needs
+
+returns-2 : tie.Need-returns-2
+unfolding questions
+returns-2 c = search (asked-yes, asked-no)
+
+none-or-list-requires : tie.Need-none-or-list-requires
+none-or-list-requires c κs = search needs
+
+returns-3 : tie.Need-returns-3
+unfolding questions
+returns-3 c = search (asked-yes, asked-no)
+
+may-bind-requires : tie.Need-may-bind-requires
+may-bind-requires c κs = search needs
+
+returns-4 : tie.Need-returns-4
+unfolding questions
+returns-4 c = search (asked-yes, asked-no)
+
+returns-5 : tie.Need-returns-5
+unfolding questions
+returns-5 c = search (asked-yes, asked-all)
+
+pub bind-refusal-spec : {M : Type 1} → statement M
+bind-refusal-spec =
+    tie.close
+    (tie.spec
+    subject-used-requires
+    returns
+    item-used-requires
+    returns-2
+    none-or-list-requires
+    returns-3
+    may-bind-requires
+    returns-4
+    returns-5)

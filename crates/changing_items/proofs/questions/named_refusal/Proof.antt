@@ -1,0 +1,34 @@
+-- `changing_items::questions::named_refusal` meets its contract: one question after the other.
+use borrow.Author.Needs.{needs}
+use borrow.Author.Tests.{lt-ltb, le-ltb}
+use Rattle.model.specs.Questions.{questions}
+use Rattle.laws.specs.Answers.{tested-no, tested-yes, asked-no, asked-yes, asked-all}
+use Rattle.changing_items.proofs.questions.named_refusal.Statement.{statement}
+use Rattle.changing_items.proofs.questions.named_refusal.Tie as tie
+
+subject-used-requires : tie.Need-subject-used-requires
+subject-used-requires c κs = search needs
+
+returns : tie.Need-returns
+unfolding questions
+returns c = search asked-no
+
+none-or-list-requires : tie.Need-none-or-list-requires
+none-or-list-requires c κs = search needs
+
+returns-2 : tie.Need-returns-2
+unfolding questions
+returns-2 c = search (asked-yes, asked-no)
+
+returns-3 : tie.Need-returns-3
+unfolding questions
+returns-3 c = search (asked-yes, tested-no, le-ltb)
+
+returns-4 : tie.Need-returns-4
+unfolding questions
+returns-4 c = search (asked-yes, tested-yes, lt-ltb, asked-all)
+
+pub named-refusal-spec : {M : Type 1} → statement M
+named-refusal-spec =
+    tie.close
+    (tie.spec subject-used-requires returns none-or-list-requires returns-2 returns-3 returns-4)

@@ -1,0 +1,30 @@
+-- What the calls that change items ask, as the code asks it: the numbers that create item is given, and who may bind an item that was read.
+use mathlib.Core.Bool.{Bool, true, false, not, or-true, or-false}
+use mathlib.Core.List.{List, [], _∷_}
+use mathlib.Core.Path.{_≡_}
+use Prim.Native.Nat.{ℕ}
+use borrow.Author.Tests.{eq-eqb, ne-eqb}
+use Rattle.model.specs.declared.ItemRow.{ItemRow}
+use Rattle.model.specs.WhoAndWhat.{has}
+use Rattle.model.specs.Image.{Tables, lockedFlag, itemIn}
+use Rattle.model.specs.Questions.{Question, _asks_, firstNo, mayBind}
+use Rattle.laws.specs.Answers.{first-left, first-right}
+
+-- What create item asks of the numbers that it is given, and the rest. n is what the first three said.
+module _ (a b c : Bool) (qs : List Question) (n : ℕ) (said : n ≡ firstNo (10 asks a ∷ 13 asks b ∷ 14 asks c ∷ [])) where
+  pub named-no : (n ≡ 0 → ⊥) → n ≡ firstNo (10 asks a ∷ 13 asks b ∷ 14 asks c ∷ qs)
+  named-no h = first-left (10 asks a ∷ 13 asks b ∷ 14 asks c ∷ []) qs n tt said h
+
+  pub named-yes : (r : ℕ) → n ≡ 0 → r ≡ firstNo qs → r ≡ firstNo (10 asks a ∷ 13 asks b ∷ 14 asks c ∷ qs)
+  named-yes r h e = first-right (10 asks a ∷ 13 asks b ∷ 14 asks c ∷ []) qs n tt said r h e
+
+module _ (t : Tables) (c i : ℕ) where
+  pub bind-custodian : c ≡ 0 → true ≡ mayBind t c i
+  bind-custodian h = rw (eq-eqb c 0 h, or-true)
+
+  module _ (x : ItemRow) (there : x ≡ itemIn (t .items) i) (h : c ≡ 0 → ⊥) where
+    pub bind-other : (c ≡ x .owner .0 → ⊥) → false ≡ mayBind t c i
+    bind-other other = rw (← there, ne-eqb c (x .owner .0) other, ne-eqb c 0 h)
+
+    pub bind-owner : (b : Bool) → c ≡ x .owner .0 → b ≡ has lockedFlag (x .flags) → not b ≡ mayBind t c i
+    bind-owner b owner e = rw (← there, eq-eqb c (x .owner .0) owner, ne-eqb c 0 h, or-false, ← e)

@@ -1,0 +1,127 @@
+// The questions of the calls that change items: create, bind and hand over, after those of the image. Each function answers the first no, or 0.
+ghost use mathlib.Core.Path.{_≡_};
+ghost use lib.ListN.{take};
+ghost use Rattle.model.specs.Image.{tablesBy};
+ghost use Rattle.model.specs.Calls.Change.{createItem, bind, handOver};
+ghost use Rattle.model.specs.Questions.{firstNo, questions, mayBind};
+use model::CREATE_ITEM;
+use model::CUSTODIAN;
+use model::Item;
+use model::ItemRow;
+use model::Layout;
+use model::Role;
+use model::Subject;
+use model::has;
+use model::needed_position;
+use model::refusal;
+use permission::decision::operations;
+use rows::read::item_at;
+use tables::free::item_free;
+use tables::items::item_used;
+use tables::items::none_or_list;
+use tables::subjects::subject_used;
+
+pub fn create_refusal(
+    image: &[u8],
+    layout: Layout,
+    caller: Subject,
+    role: Role,
+    list: Item,
+    flags: u32,
+) -> u32
+    ensures { λ r. ⌜ r ≡ firstNo (questions (tablesBy layout (now (image .entry))) (createItem (caller .0) (role .0) (list .0) flags)) ⌝ }
+{
+    let number = named_refusal(image, layout, caller, role, list, flags);
+    if number != 0 {
+        return number;
+    }
+    if !has(
+        needed_position(CREATE_ITEM),
+        operations(image, layout, caller, role),
+    ) {
+        return refusal::RIGHT;
+    }
+    if !item_free(layout) {
+        return refusal::FULL;
+    }
+    0
+}
+
+// What create item asks of the numbers that it is given: 10, 13 and 14.
+fn named_refusal(
+    image: &[u8],
+    layout: Layout,
+    caller: Subject,
+    role: Role,
+    list: Item,
+    flags: u32,
+) -> u32
+    ensures { λ r. ⌜ r ≡ firstNo (take 3 (questions (tablesBy layout (now (image .entry))) (createItem (caller .0) (role .0) (list .0) flags))) ⌝ }
+{
+    if !subject_used(image, layout, caller) {
+        return refusal::CALLER;
+    }
+    if !none_or_list(image, layout, list) {
+        return refusal::LIST;
+    }
+    if ItemRow::FLAGS <= flags {
+        return refusal::RANGE;
+    }
+    0
+}
+
+pub fn bind_refusal(image: &[u8], layout: Layout, caller: Subject, item: Item, list: Item) -> u32
+    ensures { λ r. ⌜ r ≡ firstNo (questions (tablesBy layout (now (image .entry))) (bind (caller .0) (item .0) (list .0))) ⌝ }
+{
+    if !subject_used(image, layout, caller) {
+        return refusal::CALLER;
+    }
+    if !item_used(image, layout, item) {
+        return refusal::ITEM;
+    }
+    if !none_or_list(image, layout, list) {
+        return refusal::LIST;
+    }
+    if !may_bind(image, layout, caller, item) {
+        return refusal::RIGHT;
+    }
+    0
+}
+
+// The custodian binds any item, its owner one that is not locked.
+fn may_bind(image: &[u8], layout: Layout, caller: Subject, item: Item) -> bool
+    ensures { λ r. ⌜ r ≡ mayBind (tablesBy layout (now (image .entry))) (caller .0) (item .0) ⌝ }
+{
+    if caller.0 == CUSTODIAN {
+        return true;
+    }
+    let row = item_at(image, layout, item);
+    if caller.0 != row.owner.0 {
+        return false;
+    }
+    !row.is_locked()
+}
+
+pub fn hand_over_refusal(
+    image: &[u8],
+    layout: Layout,
+    caller: Subject,
+    item: Item,
+    owner: Subject,
+) -> u32
+    ensures { λ r. ⌜ r ≡ firstNo (questions (tablesBy layout (now (image .entry))) (handOver (caller .0) (item .0) (owner .0))) ⌝ }
+{
+    if !subject_used(image, layout, caller) {
+        return refusal::CALLER;
+    }
+    if !subject_used(image, layout, owner) {
+        return refusal::SUBJECT;
+    }
+    if !item_used(image, layout, item) {
+        return refusal::ITEM;
+    }
+    if caller.0 != CUSTODIAN {
+        return refusal::RIGHT;
+    }
+    0
+}

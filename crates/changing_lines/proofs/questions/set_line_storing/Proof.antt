@@ -1,0 +1,59 @@
+-- `changing_lines::questions::set_line_storing` meets its contract: one question after the other, and then where the line goes.
+use borrow.Author.Needs.{needs}
+use Rattle.model.specs.Image.{tablesBy}
+use Rattle.model.specs.Questions.{questions}
+use Rattle.laws.specs.Answers.{asked-no, asked-yes, asked-all}
+use Rattle.search.specs.SpotLaws.{place-found}
+use Rattle.store.specs.Calls.{store-also, store-refused, store-told, store-at}
+use Rattle.changing_lines.specs.Questions.{named-no, named-yes, right-no, right-yes}
+use Rattle.changing_lines.proofs.questions.set_line_storing.Statement.{statement}
+use Rattle.changing_lines.proofs.questions.set_line_storing.Tie as tie
+
+named-refusal-requires : tie.Need-named-refusal-requires
+named-refusal-requires c κs = search needs
+
+returns : tie.Need-returns
+unfolding questions
+returns c = store-also _ _ _ (search (store-told, named-no))
+
+needed-position-requires : tie.Need-needed-position-requires
+needed-position-requires c κs = search needs
+
+permissions-requires : tie.Need-permissions-requires
+permissions-requires c κs = search needs
+
+has-requires : tie.Need-has-requires
+has-requires c κs = search needs
+
+returns-2 : tie.Need-returns-2
+unfolding questions
+returns-2 c = store-also _ _ _ (search (store-refused, named-yes, right-no))
+
+line-spot-requires : tie.Need-line-spot-requires
+line-spot-requires c κs = search needs
+
+has-room-requires : tie.Need-has-room-requires
+has-room-requires c κs = search needs
+
+returns-3 : tie.Need-returns-3
+unfolding questions tablesBy
+returns-3 c = store-also _ _ _ (search (store-refused, named-yes, right-yes, asked-no, place-found))
+
+returns-4 : tie.Need-returns-4
+unfolding questions tablesBy
+returns-4 c = store-also _ _ _ (search (store-at, named-yes, right-yes, asked-yes, asked-all, place-found))
+
+pub set-line-storing-spec : {M : Type 1} → statement M
+set-line-storing-spec =
+    tie.close
+    (tie.spec
+    named-refusal-requires
+    returns
+    needed-position-requires
+    permissions-requires
+    has-requires
+    returns-2
+    line-spot-requires
+    has-room-requires
+    returns-3
+    returns-4)

@@ -1,0 +1,129 @@
+// The questions of set line and remove line, after those of the image. Each function answers the first no, or where the line goes: the search that the last
+// question makes is the one that the change needs.
+ghost use mathlib.Core.Bool.{_||_};
+ghost use mathlib.Core.List.{[], _∷_};
+ghost use mathlib.Core.Path.{_≡_};
+ghost use lib.Dec.{ltb};
+ghost use lib.ListN.{take};
+ghost use Rattle.model.specs.Sorted.{place};
+ghost use Rattle.model.specs.Image.{tablesBy, roomsBy, lineKey};
+ghost use Rattle.model.specs.Calls.Change.{setLine, removeLine};
+ghost use Rattle.model.specs.Questions.{questions, firstNo};
+ghost use Rattle.search.specs.Spots.{isOver, spotIn};
+ghost use Rattle.store.specs.Stores.{storing, removing, storingNumber, removingNumber};
+use model::Item;
+use model::Layout;
+use model::Privileges;
+use model::REMOVE_LINE;
+use model::Role;
+use model::SET_LINE;
+use model::Subject;
+use model::has;
+use model::needed_position;
+use model::refusal;
+use permission::decision::permissions;
+use search::Spot;
+use search::lines::kind_fits;
+use search::lines::line_spot;
+use store::Removing;
+use store::Storing;
+use tables::free::line_free;
+use tables::items::is_list;
+use tables::subjects::subject_used;
+
+// Set line: where the line goes.
+pub fn set_line_storing(
+    image: &[u8],
+    layout: Layout,
+    caller: Subject,
+    role: Role,
+    list: Item,
+    kind: u32,
+    subject: Subject,
+    privileges: Privileges,
+) -> Storing
+    ensures { λ r. ⌜ r ≡ storing (firstNo (questions (tablesBy layout (now (image .entry))) (setLine (caller .0) (role .0) (list .0) kind (subject .0) privileges))) (spotIn lineKey (list .0 ∷ kind ∷ subject .0 ∷ []) (tablesBy layout (now (image .entry)) .lines)) ⌝ }
+    ensures { λ r. ⌜ storingNumber r ≡ firstNo (questions (tablesBy layout (now (image .entry))) (setLine (caller .0) (role .0) (list .0) kind (subject .0) privileges)) ⌝ }
+{
+    let number = named_refusal(image, layout, caller, list, kind, subject);
+    if number != 0 {
+        return Storing::Refused(number);
+    }
+    if !has(
+        needed_position(SET_LINE),
+        permissions(image, layout, caller, role, list),
+    ) {
+        return Storing::Refused(refusal::RIGHT);
+    }
+    let spot = line_spot(image, layout, list, kind, subject);
+    if !has_room(layout, spot) {
+        return Storing::Refused(refusal::FULL);
+    }
+    Storing::At(spot)
+}
+
+// Remove line: which row it is.
+pub fn remove_line_removing(
+    image: &[u8],
+    layout: Layout,
+    caller: Subject,
+    role: Role,
+    list: Item,
+    kind: u32,
+    subject: Subject,
+) -> Removing
+    ensures { λ r. ⌜ r ≡ removing (firstNo (questions (tablesBy layout (now (image .entry))) (removeLine (caller .0) (role .0) (list .0) kind (subject .0)))) (place lineKey (list .0 ∷ kind ∷ subject .0 ∷ []) (tablesBy layout (now (image .entry)) .lines)) ⌝ }
+    ensures { λ r. ⌜ removingNumber r ≡ firstNo (questions (tablesBy layout (now (image .entry))) (removeLine (caller .0) (role .0) (list .0) kind (subject .0))) ⌝ }
+{
+    let number = named_refusal(image, layout, caller, list, kind, subject);
+    if number != 0 {
+        return Removing::Refused(number);
+    }
+    if !has(
+        needed_position(REMOVE_LINE),
+        permissions(image, layout, caller, role, list),
+    ) {
+        return Removing::Refused(refusal::RIGHT);
+    }
+    let spot = line_spot(image, layout, list, kind, subject);
+    match spot {
+        Spot::Over(row) => Removing::Row(row),
+        Spot::New(_) => Removing::Refused(refusal::NO_ROW),
+    }
+}
+
+// What both calls ask of the numbers that they are given: 10, 11, 13 and 14. They are the first four questions of either, and none is about the role.
+fn named_refusal(
+    image: &[u8],
+    layout: Layout,
+    caller: Subject,
+    list: Item,
+    kind: u32,
+    subject: Subject,
+) -> u32
+    ensures { λ r. ⌜ r ≡ firstNo (take 4 (questions (tablesBy layout (now (image .entry))) (removeLine (caller .0) 0 (list .0) kind (subject .0)))) ⌝ }
+{
+    if !subject_used(image, layout, caller) {
+        return refusal::CALLER;
+    }
+    if !subject_used(image, layout, subject) {
+        return refusal::SUBJECT;
+    }
+    if !is_list(image, layout, list) {
+        return refusal::LIST;
+    }
+    if !kind_fits(kind, subject) {
+        return refusal::RANGE;
+    }
+    0
+}
+
+// Only a new row needs a free one: a row that is there is overwritten.
+fn has_room(layout: Layout, spot: Spot) -> bool
+    ensures { λ r. ⌜ r ≡ (isOver spot || ltb (layout .lines .used) (roomsBy layout .lines)) ⌝ }
+{
+    if spot.is_over() {
+        return true;
+    }
+    line_free(layout)
+}

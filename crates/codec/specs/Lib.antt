@@ -1,4 +1,0 @@
--- `Reading` has the words that contracts cite beside those of `model`; the others are laws in the form in which the code reads rows.
-pub mod Reading
-pub mod RowLaws
-pub mod Inside

@@ -1,0 +1,41 @@
+-- `fields::edits::insert_row` meets its contract: what is shifted up and then copied in is the bytes with the row put in.
+use borrow.Author.Needs.{needs}
+use Rattle.fields.specs.Fitting.{unfit}
+use Rattle.fields.specs.Edits.{insertBytes}
+use Rattle.fields.specs.EditLaws.{inserted}
+use Rattle.fields.proofs.edits.insert_row.Statement.{statement}
+use Rattle.fields.proofs.edits.insert_row.Tie as tie
+
+places-requires : tie.Need-places-requires
+places-requires c κs = search needs
+
+same-length : tie.Need-same-length
+same-length c = search needs
+
+returns : tie.Need-returns
+unfolding insertBytes
+returns c = search unfit
+
+shift-up-requires : tie.Need-shift-up-requires
+shift-up-requires c κs = search needs
+
+copy-in-requires : tie.Need-copy-in-requires
+copy-in-requires c κs = search needs
+
+same-length-2 : tie.Need-same-length-2
+same-length-2 c = search needs
+
+returns-2 : tie.Need-returns-2
+returns-2 c = search inserted
+
+pub insert-row-spec : {M : Type 1} → statement M
+insert-row-spec =
+    tie.close
+    (tie.spec
+    places-requires
+    same-length
+    returns
+    shift-up-requires
+    copy-in-requires
+    same-length-2
+    returns-2)

@@ -1,0 +1,45 @@
+-- `fields::edits::remove_row` meets its contract: what is shifted down and then cleared at the end is the bytes with the row taken out.
+use borrow.Author.Needs.{needs}
+use Rattle.fields.specs.Fitting.{unfit}
+use Rattle.fields.specs.Edits.{removeBytes}
+use Rattle.fields.specs.EditLaws.{removed}
+use Rattle.fields.proofs.edits.remove_row.Statement.{statement}
+use Rattle.fields.proofs.edits.remove_row.Tie as tie
+
+places-requires : tie.Need-places-requires
+places-requires c κs = search needs
+
+same-length : tie.Need-same-length
+same-length c = search needs
+
+returns : tie.Need-returns
+unfolding removeBytes
+returns c = search unfit
+
+sub-kept : tie.Need-sub-kept
+sub-kept c = search needs
+
+shift-down-requires : tie.Need-shift-down-requires
+shift-down-requires c κs = search needs
+
+clear-from-requires : tie.Need-clear-from-requires
+clear-from-requires c κs = search needs
+
+same-length-2 : tie.Need-same-length-2
+same-length-2 c = search needs
+
+returns-2 : tie.Need-returns-2
+returns-2 c = search removed
+
+pub remove-row-spec : {M : Type 1} → statement M
+remove-row-spec =
+    tie.close
+    (tie.spec
+    places-requires
+    same-length
+    returns
+    sub-kept
+    shift-down-requires
+    clear-from-requires
+    same-length-2
+    returns-2)

@@ -1,3 +1,0 @@
--- Laws in the form in which the code compares keys and looks for rows. The definitions are those of `model`.
-pub mod Keys
-pub mod Ranks

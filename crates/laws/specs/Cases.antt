@@ -1,0 +1,39 @@
+-- An answer with two cases: a yes, which holds something, and a no, which holds the number of the first question that is answered no. m is that number, or 0.
+use mathlib.Core.Bool.{Bool, true, false, cond}
+use mathlib.Core.Path.{_≡_, refl, sym, _∙_}
+use Prim.Native.Nat.{ℕ}
+use borrow.Author.Tests.{eqb-true, eqb-false, ne-eqb}
+use lib.Dec.{eqb}
+
+-- What makes two constructors such cases.
+pub record Apart {A O : Type 0} (yes : A → O) (no : ℕ → O) : Type 0 where
+  pub differ : (x : A) (n : ℕ) → yes x ≡ no n → ⊥
+  pub one-yes : (x y : A) → yes x ≡ yes y → x ≡ y
+  pub one-no : (m n : ℕ) → no m ≡ no n → m ≡ n
+
+module _ {A O : Type 0} (yes : A → O) (no : ℕ → O) (m : ℕ) (x : A) where
+  -- how code comes to a case
+  pub case-no : (n : ℕ) → eqb n 0 ≡ false → n ≡ m → no n ≡ cond (eqb m 0) (yes x) (no m)
+  case-no n some-no e = rw (← e, some-no)
+
+  pub case-told : (n : ℕ) → (n ≡ 0 → ⊥) → n ≡ m → no n ≡ cond (eqb m 0) (yes x) (no m)
+  case-told n some-no e = case-no n (ne-eqb n 0 some-no) e
+
+  pub case-yes : (y : A) → 0 ≡ m → y ≡ x → yes y ≡ cond (eqb m 0) (yes x) (no m)
+  case-yes y all e = rw (← all, e)
+
+  -- what a case says; o is what the code was told
+  module _ (apart : Apart yes no) (o : O) (is : o ≡ cond (eqb m 0) (yes x) (no m)) where
+    pub no-says : (n : ℕ) → o ≡ no n → (n ≡ m) × (n ≡ 0 → ⊥)
+    no-says n case = go (eqb m 0) refl (sym case ∙ is)
+      where
+        go : (b : Bool) → eqb m 0 ≡ b → no n ≡ cond b (yes x) (no m) → (n ≡ m) × (n ≡ 0 → ⊥)
+        go true e same = absurd (apart .differ x n (sym same))
+        go false e same = let number : n ≡ m = apart .one-no n m same in (number, λ z. eqb-false m 0 e (sym number ∙ z))
+
+    pub yes-says : (y : A) → o ≡ yes y → (m ≡ 0) × (y ≡ x)
+    yes-says y case = go (eqb m 0) refl (sym case ∙ is)
+      where
+        go : (b : Bool) → eqb m 0 ≡ b → yes y ≡ cond b (yes x) (no m) → (m ≡ 0) × (y ≡ x)
+        go true e same = (eqb-true m 0 e, apart .one-yes y x same)
+        go false e same = absurd (apart .differ y m same)

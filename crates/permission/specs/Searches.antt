@@ -1,0 +1,158 @@
+-- The lines that a search finds, as the code looks for them.
+use mathlib.Core.Bool.{Bool, true, false, cond, false≢true}
+use mathlib.Core.List.{List, [], _∷_}
+use mathlib.Core.Option.{Option, none, some}
+use mathlib.Core.Path.{_≡_, refl, sym, ap, _∙_}
+use Prim.Native.Nat.{ℕ, zero, suc, _<_, _≤_}
+use native.Mathlib.Nat.{le-of-eq, le-of-suc-le-suc, not-suc-le-zero}
+use borrow.Author.Tests.{lt-ltb, le-ltb, eq-eqb, ne-eqb}
+use lib.Dec.{eqb, ltb}
+use lib.ListN.{length, getD, getElem?}
+use Rattle.model.specs.declared.Layout.{Layout}
+use Rattle.model.specs.declared.LineRow.{LineRow}
+use Rattle.model.specs.declared.SoughtLine.{SoughtLine}
+use Rattle.model.specs.declared.SoughtLine.the-variants.{Line, NoLine}
+use Rattle.model.specs.Lists.{orElse, isThere}
+use Rattle.model.specs.Sorted.{find, place}
+use Rattle.model.specs.Image.{rowsIn, tablesBy, widthOf, lineFormat, lineKey, groupKind, ownerKind, itselfKind, noLine, parentIn}
+use Rattle.model.specs.Permission.{foundLine, lineIn, groupWithin, groupLine, directLine}
+use Rattle.laws.specs.Rows.{rows-count}
+use Rattle.laws.specs.Sorted.{found-at, found-place}
+use Rattle.laws.specs.Tree.{group-up}
+use Rattle.search.specs.declared.Spot.{Spot}
+use Rattle.search.specs.declared.Spot.the-variants.{Over, New}
+use Rattle.search.specs.Spots.{spotIn}
+use Rattle.permission.specs.Climbing.{climbingLayout}
+
+either-way : {A : Type 0} (b : Bool) (x : A) → cond b x x ≡ x
+either-way true x = refl
+either-way false x = refl
+
+module _ (lines : List LineRow) (kind s : ℕ) (o : Option LineRow) where
+  pub some-list : (a : ℕ) → (a ≡ 0 → ⊥) → o ≡ find lineKey (a ∷ kind ∷ s ∷ []) lines → o ≡ lineIn lines a kind s
+  some-list zero h e = absurd (h refl)
+  some-list (suc a) h e = e
+
+-- the first of two that is there
+module _ (x : SoughtLine) (a b : Option LineRow) (told : foundLine x ≡ a) where
+  pub first-there : (l : LineRow) → x ≡ Line l → some l ≡ orElse a b
+  first-there l h = rw (← told, h)
+
+  pub first-missing : (r : Option LineRow) → x ≡ NoLine → r ≡ b → r ≡ orElse a b
+  first-missing r h f = rw (← told, h) f
+
+-- A row by its index: past the end there is none.
+module _ {A : Type 0} where
+  index-past : (xs : List A) (n : ℕ) → length xs ≤ n → getElem? xs n ≡ none
+  index-past [] n h = refl
+  index-past (x ∷ xs) zero h = absurd (not-suc-le-zero h)
+  index-past (x ∷ xs) (suc n) h = index-past xs n (le-of-suc-le-suc h)
+
+  index-there : (xs : List A) (n : ℕ) (d : A) → n < length xs → getElem? xs n ≡ some (getD xs n d)
+  index-there [] n d h = absurd (not-suc-le-zero h)
+  index-there (x ∷ xs) zero d h = refl
+  index-there (x ∷ xs) (suc n) d h = index-there xs n d (le-of-suc-le-suc h)
+
+  -- the row that a spot is over is the row that the search finds, and is there
+  module _ (key : A → List ℕ) (k : List ℕ) (xs : List A) (spot : Spot) (so : spot ≡ spotIn key k xs) (n : ℕ) where
+    over-first : spot ≡ Over n → (b : Option A) → getElem? xs n ≡ orElse (find key k xs) b
+    over-first over b = go (find key k xs) refl (sym so ∙ over)
+      where
+        go : (o : Option A) → find key k xs ≡ o → cond (isThere o) (Over (place key k xs)) (New (place key k xs)) ≡ Over n → getElem? xs n ≡ orElse o b
+        go none e same = absurd (false≢true cc)
+        go (some y) e same =
+            let here : place key k xs ≡ n = cc in
+            rw (← here) (index-there xs (place key k xs) y (found-place key k xs y e) ∙ ap some (found-at key k xs y y e))
+
+    new-none : spot ≡ New n → find key k xs ≡ none
+    new-none fresh = go (find key k xs) (sym so ∙ fresh)
+      where
+        go : (o : Option A) → cond (isThere o) (Over (place key k xs)) (New (place key k xs)) ≡ New n → o ≡ none
+        go none same = refl
+        go (some y) same = absurd (false≢true cc)
+
+-- The group search, one step up. p is the parent, a a list, spot where its group line goes among the lines.
+module _ (up : ℕ → ℕ) (lines : List LineRow) (s a p : ℕ) (e : p ≡ up s) where
+  group-out : (n : ℕ) → length lines ≤ n → s ≤ p → getElem? lines n ≡ groupLine up lines s a
+  group-out n past h = rw (index-past lines n past, group-up up lines a s, ← e, le-ltb p s h)
+
+  module _ (low : p < s) (some-a : a ≡ 0 → ⊥) (spot : Spot) (so : spot ≡ spotIn lineKey (a ∷ groupKind ∷ p ∷ []) lines) (n : ℕ) where
+    stepped : groupLine up lines s a ≡ orElse (find lineKey (a ∷ groupKind ∷ p ∷ []) lines) (groupLine up lines p a)
+    stepped = rw (group-up up lines a s, ← e, lt-ltb p s low, ← some-list lines groupKind p (find lineKey (a ∷ groupKind ∷ p ∷ []) lines) a some-a refl)
+
+    group-here : spot ≡ Over n → getElem? lines n ≡ groupLine up lines s a
+    group-here over = over-first lineKey (a ∷ groupKind ∷ p ∷ []) lines spot so n over (groupLine up lines p a) ∙ sym stepped
+
+    group-above : (r : ℕ) → spot ≡ New n → getElem? lines r ≡ groupLine up lines p a → getElem? lines r ≡ groupLine up lines s a
+    group-above r fresh f = rw (stepped, new-none lineKey (a ∷ groupKind ∷ p ∷ []) lines spot so n fresh) f
+
+-- The same as the code goes: lay is as much of a layout as it was handed.
+module _ (img : List ℕ) (members membersAt count linesAt : ℕ) (lay : Layout) (is : lay ≡ climbingLayout members membersAt count linesAt) (s a p : ℕ)
+    (e : p ≡ parentIn (tablesBy lay img .subjects) s) where
+  abbrev lines : List LineRow
+  lines = tablesBy (climbingLayout members membersAt count linesAt) img .lines
+
+  abbrev parent : ℕ → ℕ
+  parent = parentIn (tablesBy (climbingLayout members membersAt count linesAt) img .subjects)
+
+  step : p ≡ parent s
+  step = rw is at e
+
+  pub climb-out : s ≤ p → getElem? lines count ≡ groupLine parent lines s a
+  unfolding tablesBy
+  climb-out h = group-out parent lines s a p step count (le-of-eq (rows-count (lineFormat (widthOf lay)) (climbingLayout members membersAt count linesAt .lines) img)) h
+
+  module _ (low : p < s) (some-a : a ≡ 0 → ⊥) (spot : Spot) (so : spot ≡ spotIn lineKey (a ∷ groupKind ∷ p ∷ []) (tablesBy lay img .lines)) (n : ℕ) where
+    pub climb-here : spot ≡ Over n → getElem? lines n ≡ groupLine parent lines s a
+    climb-here over = group-here parent lines s a p step low some-a spot (rw is at so) n over
+
+    pub climb-above : (r : ℕ) → spot ≡ New n → getElem? lines r ≡ groupLine parent lines p a → getElem? lines r ≡ groupLine parent lines s a
+    climb-above r fresh f = group-above parent lines s a p step low some-a spot (rw is at so) n r fresh f
+
+-- no list, no group line
+no-group : (n : ℕ) (up : ℕ → ℕ) (lines : List LineRow) (s : ℕ) → groupWithin n up lines s 0 ≡ none
+unfolding groupWithin
+no-group zero up lines s = refl
+no-group (suc n) up lines s = rw (no-group n up lines (up s)) (either-way (ltb (up s) s) none)
+
+pub no-list : (up : ℕ → ℕ) (lines : List LineRow) (s a : ℕ) → a ≡ 0 → groupLine up lines s a ≡ none
+unfolding groupLine
+no-list up lines s a z = rw z (no-group s up lines s)
+
+-- What the group search found, by its index: it is handed as much of the layout as it reads, and its tables are those of the layout.
+module _ (lay : Layout) (img : List ℕ) (s a : ℕ) where
+  abbrev found : Option LineRow
+  found = groupLine (parentIn (tablesBy lay img .subjects)) (tablesBy lay img .lines) s a
+
+  pub group-none : a ≡ 0 → none ≡ found
+  group-none z = sym (no-list (parentIn (tablesBy lay img .subjects)) (tablesBy lay img .lines) s a z)
+
+  abbrev climbed : Layout
+  climbed = climbingLayout (lay .subjects .used) (lay .subjects .start) (lay .lines .used) (lay .lines .start)
+
+  module _ (n : ℕ) (told : getElem? (tablesBy climbed img .lines) n ≡ groupLine (parentIn (tablesBy climbed img .subjects)) (tablesBy climbed img .lines) s a) where
+    pub index-none : lay .lines .used ≤ n → none ≡ found
+    unfolding tablesBy rowsIn
+    index-none past =
+        let rows : List LineRow = rowsIn (lineFormat (widthOf lay)) (lay .lines) img in
+        sym (index-past rows n (rw (rows-count (lineFormat (widthOf lay)) (lay .lines) img) past)) ∙ told
+
+    pub index-row : (x : LineRow) → n < lay .lines .used → x ≡ getD (rowsIn (lineFormat (widthOf lay)) (lay .lines) img) n noLine → some x ≡ found
+    unfolding tablesBy rowsIn
+    index-row x there e =
+        let rows : List LineRow = rowsIn (lineFormat (widthOf lay)) (lay .lines) img in
+        ap some e ∙ sym (index-there rows n noLine (rw (rows-count (lineFormat (widthOf lay)) (lay .lines) img) there)) ∙ told
+
+-- The owner's line, and anybody else's.
+module _ (lines : List LineRow) (s o a : ℕ) (r : Option LineRow) where
+  pub direct-owner : s ≡ o → r ≡ lineIn lines a ownerKind 0 → r ≡ directLine lines s o a
+  unfolding directLine
+  direct-owner h e = rw (eq-eqb s o h) e
+
+  pub direct-other : (s ≡ o → ⊥) → r ≡ lineIn lines a itselfKind s → r ≡ directLine lines s o a
+  unfolding directLine
+  direct-other h e = rw (ne-eqb s o h) e
+
+pub no-direct : (lines : List LineRow) (s o a : ℕ) → a ≡ 0 → directLine lines s o a ≡ none
+unfolding directLine
+no-direct lines s o a z = rw z (either-way (eqb s o) none)

@@ -1,0 +1,31 @@
+-- The sets of a subject, put together as the code does.
+use mathlib.Core.Option.{Option}
+use mathlib.Core.Path.{_≡_, ap, _∙_}
+use Prim.Native.Nat.{ℕ}
+use Rattle.model.specs.declared.GrantRow.{GrantRow}
+use Rattle.model.specs.declared.ItemRow.{ItemRow}
+use Rattle.model.specs.WhoAndWhat.{_∪_, _∩_}
+use Rattle.model.specs.Image.{Tables, privilegesIn, itemIn}
+use Rattle.model.specs.Permission.{partOn, lentOperations, lentOn, grantOf, operationUnder, objectUnder, permissionUnder, operationSet, permissionSet}
+
+module _ (t : Tables) (s : ℕ) (g : Option GrantRow) (a b r : ℕ) where
+  pub operations-joined : a ≡ privilegesIn (t .subjects) s → b ≡ lentOperations t g → r ≡ a ∪ b → r ≡ operationUnder t s g
+  unfolding operationUnder
+  operations-joined own lent both = rw (← own, ← lent) both
+
+  -- of an item whose row was read
+  pub objects-joined : (i : ℕ) (row : ItemRow) → row ≡ itemIn (t .items) i → a ≡ partOn t s row → b ≡ lentOn t g row → r ≡ a ∪ b → r ≡ objectUnder t s g i
+  unfolding objectUnder
+  objects-joined i row read own lent both = rw (← read, ← own, ← lent) both
+
+  pub permissions-cut : (i : ℕ) → a ≡ operationUnder t s g → b ≡ objectUnder t s g i → r ≡ a ∩ b → r ≡ permissionUnder t s g i
+  unfolding permissionUnder
+  permissions-cut i operations objects both = rw (← operations, ← objects) both
+
+-- under the grant that was found for the claimed role
+module _ (t : Tables) (s role : ℕ) (g : Option GrantRow) (r : ℕ) (found : g ≡ grantOf t s role) where
+  pub operations-claimed : r ≡ operationUnder t s g → r ≡ operationSet t s role
+  operations-claimed e = e ∙ ap (operationUnder t s) found
+
+  pub permissions-claimed : (i : ℕ) → r ≡ permissionUnder t s g i → r ≡ permissionSet t s role i
+  permissions-claimed i e = e ∙ ap (λ (x : Option GrantRow). permissionUnder t s x i) found

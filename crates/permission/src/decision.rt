@@ -1,0 +1,103 @@
+// How a permission is found: the sets of a subject, under a grant that it holds or might hold, and under the role that it claims. No function checks the
+// image: a caller that has checked it once may ask for any number of sets.
+ghost use mathlib.Core.Path.{_≡_};
+ghost use Rattle.model.specs.Image.{tablesBy};
+ghost use Rattle.model.specs.Permission.{foundGrant, grantOf, operationUnder, objectUnder, permissionUnder, operationSet, permissionSet};
+use crate::parts::lent_operations;
+use crate::parts::lent_part;
+use crate::parts::lines_part;
+use model::Item;
+use model::Layout;
+use model::Privileges;
+use model::Role;
+use model::SoughtGrant;
+use model::Subject;
+use model::intersection;
+use model::union;
+use rows::read::item_at;
+use search::grants::find_grant;
+use tables::subjects::privileges_of;
+
+// The grant of a claimed role. Role 0 means no role.
+pub fn grant_of(image: &[u8], layout: Layout, subject: Subject, role: Role) -> SoughtGrant
+    ensures { λ r. ⌜ foundGrant r ≡ grantOf (tablesBy layout (now (image .entry))) (subject .0) (role .0) ⌝ }
+{
+    if role.0 == 0 {
+        return SoughtGrant::NoGrant;
+    }
+    find_grant(image, layout, subject, role)
+}
+
+pub fn operations_under(
+    image: &[u8],
+    layout: Layout,
+    subject: Subject,
+    grant: SoughtGrant,
+) -> Privileges
+    ensures { λ r. ⌜ r ≡ operationUnder (tablesBy layout (now (image .entry))) (subject .0) (foundGrant grant) ⌝ }
+{
+    let own = privileges_of(image, layout, subject);
+    let lent = lent_operations(image, layout, grant);
+    union(own, lent)
+}
+
+// The item's row is read once, for the subject's part and for what the grant adds.
+pub fn objects_under(
+    image: &[u8],
+    layout: Layout,
+    subject: Subject,
+    grant: SoughtGrant,
+    item: Item,
+) -> Privileges
+    ensures { λ r. ⌜ r ≡ objectUnder (tablesBy layout (now (image .entry))) (subject .0) (foundGrant grant) (item .0) ⌝ }
+{
+    let row = item_at(image, layout, item);
+    let own = lines_part(image, layout, subject, row);
+    let lent = lent_part(image, layout, grant, row);
+    union(own, lent)
+}
+
+pub fn permissions_under(
+    image: &[u8],
+    layout: Layout,
+    subject: Subject,
+    grant: SoughtGrant,
+    item: Item,
+) -> Privileges
+    ensures { λ r. ⌜ r ≡ permissionUnder (tablesBy layout (now (image .entry))) (subject .0) (foundGrant grant) (item .0) ⌝ }
+{
+    let operations = operations_under(image, layout, subject, grant);
+    let objects = objects_under(image, layout, subject, grant, item);
+    intersection(operations, objects)
+}
+
+// The operation set.
+pub fn operations(image: &[u8], layout: Layout, subject: Subject, role: Role) -> Privileges
+    ensures { λ r. ⌜ r ≡ operationSet (tablesBy layout (now (image .entry))) (subject .0) (role .0) ⌝ }
+{
+    operations_under(
+        image,
+        layout,
+        subject,
+        grant_of(image, layout, subject, role),
+    )
+}
+
+// The permission set.
+pub fn permissions(
+    image: &[u8],
+    layout: Layout,
+    subject: Subject,
+    role: Role,
+    item: Item,
+) -> Privileges
+    ensures { λ r. ⌜ r ≡ permissionSet (tablesBy layout (now (image .entry))) (subject .0) (role .0) (item .0) ⌝ }
+{
+    permissions_under(
+        image,
+        layout,
+        subject,
+        grant_of(image, layout, subject, role),
+        item,
+    )
+}

@@ -1,0 +1,151 @@
+// The lines that speak of a subject. Like all that decides, the functions take the image and its layout, ask no question about them, and are total: they
+// answer by the tables that the layout cuts out of the image.
+ghost use mathlib.Core.Logic.{_≢_};
+ghost use mathlib.Core.Path.{_≡_};
+ghost use lib.ListN.{getElem?};
+ghost use Rattle.model.specs.Lists.{orElse};
+ghost use Rattle.model.specs.Image.{tablesBy, parentIn};
+ghost use Rattle.model.specs.Permission.{foundLine, lineIn, groupLine, directLine};
+ghost use Rattle.permission.specs.Climbing.{climbingLayout};
+use model::Item;
+use model::Layout;
+use model::LineRow;
+use model::SoughtLine;
+use model::Subject;
+use model::Table;
+use rows::read::line_at;
+use search::Spot;
+use search::lines::find_line;
+use search::lines::line_spot;
+use tables::subjects::parent_of;
+
+// The line of a list for a kind and a subject. No list means no lines.
+pub fn line_of(image: &[u8], layout: Layout, list: Item, kind: u32, subject: Subject) -> SoughtLine
+    ensures { λ r. ⌜ foundLine r ≡ lineIn (tablesBy layout (now (image .entry)) .lines) (list .0) kind (subject .0) ⌝ }
+{
+    if list.0 == 0 {
+        return SoughtLine::NoLine;
+    }
+    find_line(image, layout, list, kind, subject)
+}
+
+// The lowest group line above a subject.
+pub fn group_line(image: &[u8], layout: Layout, subject: Subject, list: Item) -> SoughtLine
+    ensures { λ r. ⌜ foundLine r ≡ groupLine (parentIn (tablesBy layout (now (image .entry)) .subjects)) (tablesBy layout (now (image .entry)) .lines) (subject .0) (list .0) ⌝ }
+{
+    if list.0 == 0 {
+        return SoughtLine::NoLine;
+    }
+    let subjects = layout.subjects;
+    let lines = layout.lines;
+    let n = group_index(
+        image,
+        subjects.used,
+        subjects.start,
+        lines.used,
+        lines.start,
+        subject,
+        list,
+    );
+    if lines.used <= n {
+        return SoughtLine::NoLine;
+    }
+    SoughtLine::Line(line_at(image, layout, n))
+}
+
+// Its index among the lines; as many as there are where there is none. The search goes up by recursion on the subject's number, which falls: a parent that is
+// not lower ends it. It is handed plain numbers and answers one, since every level stays on the stack, and a chain of groups may have thousands.
+fn group_index(
+    image: &[u8],
+    subjects_used: u32,
+    subjects_start: u32,
+    lines_used: u32,
+    lines_start: u32,
+    subject: Subject,
+    list: Item,
+) -> u32
+    requires { ⌜ list .0 ≢ 0 ⌝ }
+    ensures { λ r. ⌜ getElem? (tablesBy (climbingLayout «subjects_used» «subjects_start» «lines_used» «lines_start») (now (image .entry)) .lines) r ≡ groupLine (parentIn (tablesBy (climbingLayout «subjects_used» «subjects_start» «lines_used» «lines_start») (now (image .entry)) .subjects)) (tablesBy (climbingLayout «subjects_used» «subjects_start» «lines_used» «lines_start») (now (image .entry)) .lines) (subject .0) (list .0) ⌝ }
+{
+    let layout = climbing_layout(subjects_used, subjects_start, lines_used, lines_start);
+    let parent = parent_of(image, layout, subject);
+    if subject.0 <= parent.0 {
+        return lines_used;
+    }
+    let spot = line_spot(image, layout, list, LineRow::GROUP, parent);
+    match spot {
+        Spot::Over(n) => n,
+        Spot::New(_) => group_index(
+            image,
+            subjects_used,
+            subjects_start,
+            lines_used,
+            lines_start,
+            parent,
+            list,
+        ),
+    }
+}
+
+// As much of a layout as the group search reads: where the subjects and the lines lie.
+fn climbing_layout(
+    subjects_used: u32,
+    subjects_start: u32,
+    lines_used: u32,
+    lines_start: u32,
+) -> Layout
+    ensures { λ r. ⌜ r ≡ climbingLayout «subjects_used» «subjects_start» «lines_used» «lines_start» ⌝ }
+{
+    let none = Table {
+        used: 0,
+        start: 0,
+        end: 0,
+    };
+    Layout {
+        subjects: Table {
+            used: subjects_used,
+            start: subjects_start,
+            end: 0,
+        },
+        grants: none,
+        lines: Table {
+            used: lines_used,
+            start: lines_start,
+            end: 0,
+        },
+        items: none,
+    }
+}
+
+// The owner's line for the owner, the subject's own line for anybody else.
+pub fn direct_line(
+    image: &[u8],
+    layout: Layout,
+    subject: Subject,
+    owner: Subject,
+    list: Item,
+) -> SoughtLine
+    ensures { λ r. ⌜ foundLine r ≡ directLine (tablesBy layout (now (image .entry)) .lines) (subject .0) (owner .0) (list .0) ⌝ }
+{
+    if subject.0 == owner.0 {
+        return line_of(image, layout, list, LineRow::OWNER, Subject(0));
+    }
+    line_of(image, layout, list, LineRow::ITSELF, subject)
+}
+
+// The line that decides for a subject: its direct line, even if that holds 0, and else the group's.
+pub fn deciding_line(
+    image: &[u8],
+    layout: Layout,
+    subject: Subject,
+    owner: Subject,
+    list: Item,
+) -> SoughtLine
+    ensures { λ r. ⌜ foundLine r ≡ orElse (directLine (tablesBy layout (now (image .entry)) .lines) (subject .0) (owner .0) (list .0)) (groupLine (parentIn (tablesBy layout (now (image .entry)) .subjects)) (tablesBy layout (now (image .entry)) .lines) (subject .0) (list .0)) ⌝ }
+{
+    let direct = direct_line(image, layout, subject, owner, list);
+    match direct {
+        SoughtLine::Line(own) => SoughtLine::Line(own),
+        SoughtLine::NoLine => group_line(image, layout, subject, list),
+    }
+}

@@ -1,2 +1,0 @@
--- Laws in the form in which the code tests for a free row. The definitions are those of `model`.
-pub mod Rooms

@@ -1,0 +1,143 @@
+-- The rows of a table read from the bytes of all of them: what is not there, or not whole, is the row of zeros.
+use mathlib.Core.List.{List, []}
+use mathlib.Core.Logic.{⊎-elim}
+use mathlib.Core.Path.{_≡_, refl, sym, ap, _∙_}
+use Prim.Native.Nat.{ℕ, suc, _+_, _-_, _*_, _/_, _<_, _≤_}
+use native.Mathlib.Nat.{le-of-eq, le-div-iff-mul-le, div-lt-iff-lt-mul, mul-le-mul-right, suc-mul, add-sub-cancel-left}
+use native.Mathlib.Omega.{arith}
+use lib.ListN.{length, getD, take, drop, replicate, length-drop, length-take, take-append-drop, drop-of-length-le}
+use lib.Seq.{length-take-le, take-add, drop-at, drop-drop, take-all}
+use Rattle.model.specs.declared.Table.{Table}
+use Rattle.model.specs.Image.{Format, size, firstRow, rowsIn, fieldsAt}
+use Rattle.laws.specs.Tests.{le-or-lt}
+use Rattle.laws.specs.Rows.{Lawful, row-in, row-past, whole-row, part-row}
+use Rattle.rows.specs.Reading.{rowOf, rowsSlice}
+use Rattle.rows.specs.RowLaws.{fields-front}
+
+drop-take : (n m : ℕ) (s : List ℕ) → drop n (take (n + m) s) ≡ take m (drop n s)
+drop-take n m s = ⊎-elim inside past (le-or-lt n (length s))
+  where
+    inside : n ≤ length s → drop n (take (n + m) s) ≡ take m (drop n s)
+    inside h = rw (take-add n m s) (drop-at (take n s) (take m (drop n s)) n (length-take-le n s h))
+
+    past : length s < n → drop n (take (n + m) s) ≡ take m (drop n s)
+    past h =
+        let short : length (take (n + m) s) ≤ n = simp length-take (omega arith) in
+        rw (drop-of-length-le (take (n + m) s) {i = n} short, drop-of-length-le s {i = n} (omega arith)) (sym (take-all {A = ℕ} m [] (omega arith)))
+
+module _ {A : Type 0} (f : Format A) (law : Lawful f) where
+  -- the first row of bytes is that of their first m, where m is a row or more
+  first-of-take : (m : ℕ) (s : List ℕ) → size f ≤ m → firstRow f (take m s) ≡ firstRow f s
+  first-of-take m s enough = ⊎-elim whole part (le-or-lt (size f) (length s))
+    where
+      whole : size f ≤ length s → firstRow f (take m s) ≡ firstRow f s
+      whole h =
+          let long : size f ≤ length (take m s) = simp length-take (omega arith) in
+          let same : fieldsAt (f .widths) s 0 ≡ fieldsAt (f .widths) (take m s) 0 =
+          ap (λ (b : List ℕ). fieldsAt (f .widths) b 0) (sym (take-append-drop m s)) ∙ fields-front (f .widths) (take m s) (drop m s) 0 (omega arith) in
+          whole-row f (take m s) long ∙ ap (f .row) (sym same) ∙ sym (whole-row f s h)
+
+      part : length s < size f → firstRow f (take m s) ≡ firstRow f s
+      part h =
+          let short : length (take m s) < size f = simp length-take (omega arith) in
+          part-row f (take m s) short ∙ sym (part-row f s h)
+
+  module _ (t : Table) (img : List ℕ) (d : A) (none : d ≡ f .row (replicate (length (f .widths)) 0)) (k : ℕ) where
+    pub among-row : firstRow f (drop (k * size f) (rowsSlice f t img)) ≡ getD (rowsIn f t img) k d
+    unfolding rowsSlice
+    among-row = ⊎-elim past used (le-or-lt (t .used) k)
+      where
+        rest : List ℕ
+        rest = drop (t .start) img
+
+        past : t .used ≤ k → firstRow f (drop (k * size f) (take (t .used * size f) rest)) ≡ getD (rowsIn f t img) k d
+        past h =
+            let far : t .used * size f ≤ k * size f = mul-le-mul-right (size f) h in
+            let short : length (take (t .used * size f) rest) ≤ k * size f = simp length-take (omega arith) in
+            let empty : drop (k * size f) (take (t .used * size f) rest) ≡ [] = drop-of-length-le (take (t .used * size f) rest) {i = k * size f} short in
+            ap (firstRow f) empty ∙ part-row f [] (law .wide) ∙ sym none ∙ sym (row-past f t img d k h)
+
+        used : k < t .used → firstRow f (drop (k * size f) (take (t .used * size f) rest)) ≡ getD (rowsIn f t img) k d
+        used h =
+            let more : suc k * size f ≤ t .used * size f = mul-le-mul-right (size f) h in
+            let enough : size f ≤ t .used * size f - k * size f = omega (arith, suc-mul k (size f)) in
+            let split : t .used * size f ≡ k * size f + (t .used * size f - k * size f) = omega (arith, suc-mul k (size f)) in
+            let cut : drop (k * size f) (take (t .used * size f) rest) ≡ take (t .used * size f - k * size f) (drop (k * size f) rest) =
+            ap (λ (n : ℕ). drop (k * size f) (take n rest)) split ∙ drop-take (k * size f) (t .used * size f - k * size f) rest in
+            ap (firstRow f) cut
+            ∙ first-of-take (t .used * size f - k * size f) (drop (k * size f) rest) enough
+            ∙ ap (firstRow f) (drop-drop (k * size f) (t .start) img)
+            ∙ sym (row-in f t img d k h)
+
+-- The bytes of the rows, as the code takes them. p is the offset behind the rows in use.
+module _ {A : Type 0} (f : Format A) (t : Table) (s : List ℕ) where
+  pub rows-none : length s ≤ t .start → [] ≡ rowsSlice f t s
+  unfolding rowsSlice
+  rows-none h = rw (drop-of-length-le s {i = t .start} h) (sym (take-all {A = ℕ} (t .used * size f) [] (omega arith)))
+
+  module _ (p : ℕ) (place : p ≡ t .start + t .used * size f) where
+    pub rows-rest : length s < p → take (length s - t .start) (drop (t .start) s) ≡ rowsSlice f t s
+    unfolding rowsSlice
+    rows-rest h =
+        let all : length (drop (t .start) s) ≤ length s - t .start = le-of-eq (length-drop (t .start) s) in
+        let few : length (drop (t .start) s) ≤ t .used * size f = simp length-drop (omega arith) in
+        take-all (length s - t .start) (drop (t .start) s) all ∙ sym (take-all (t .used * size f) (drop (t .start) s) few)
+
+    pub rows-all : take (p - t .start) (drop (t .start) s) ≡ rowsSlice f t s
+    unfolding rowsSlice
+    rows-all = let long : p - t .start ≡ t .used * size f = omega arith in rw long
+
+pub divided : (m n k : ℕ) → n ≡ k → m / n ≡ m / k
+divided m n k e = rw e
+
+-- One of them, as the code reads it. m is how many whole rows there are.
+module _ {A : Type 0} (f : Format A) (law : Lawful f) (s : List ℕ) (k m : ℕ) (count : m ≡ length s / size f) where
+  past-end : m ≤ k → length s < k * size f + size f
+  past-end h =
+      let few : length s / size f < suc k = omega arith in
+      let room : length s < suc k * size f = div-lt-iff-lt-mul (law .wide) .0 few in
+      omega (arith, suc-mul k (size f))
+
+  before-end : k < m → k * size f + size f ≤ length s
+  before-end h =
+      let room : suc k * size f ≤ length s = le-div-iff-mul-le (law .wide) .0 (omega arith) in
+      omega (arith, suc-mul k (size f))
+
+  pub among-none : (d r : A) → d ≡ f .row (replicate (length (f .widths)) 0) → m ≤ k → r ≡ d → r ≡ firstRow f (drop (k * size f) s)
+  among-none d r none h e =
+      let out : length s < k * size f + size f = past-end h in
+      let short : length (drop (k * size f) s) < size f = simp length-drop (omega (arith, law .wide)) in
+      e ∙ none ∙ sym (part-row f (drop (k * size f) s) short)
+
+  -- n are the bytes of a row
+  module _ (n : ℕ) (wide : n ≡ size f) (there : k < m) where
+    pub among-end : k * n + n ≤ length s
+    among-end = rw wide (before-end there)
+
+    pub among-whole : (r : A) → r ≡ rowOf f (take (k * n + n - k * n) (drop (k * n) s)) → r ≡ firstRow f (drop (k * size f) s)
+    among-whole r e =
+        let at : ℕ = k * size f in
+        let inside : at + size f ≤ length s = before-end there in
+        let room : size f ≤ length (drop at s) = simp length-drop (omega arith) in
+        let long : length (take (size f) (drop at s)) ≡ size f = length-take-le (size f) (drop at s) room in
+        let here : take (k * n + n - k * n) (drop (k * n) s) ≡ take (size f) (drop at s) = rw (wide, add-sub-cancel-left) in
+        e
+        ∙ ap (rowOf f) here
+        ∙ sym (whole-row f (take (size f) (drop at s)) (omega arith))
+        ∙ first-of-take f law (size f) (drop at s) (omega arith)
+
+-- The whole rows among those in use: no more than are in use, and past them every row is one of zeros.
+module _ {A : Type 0} (f : Format A) (law : Lawful f) (t : Table) (img rows : List ℕ) (taken : rows ≡ rowsSlice f t img) (m : ℕ) (count : m ≡ length rows / size f) where
+  pub whole-few : m ≤ t .used
+  unfolding rowsSlice
+  whole-few =
+      let short : length rows ≤ t .used * size f = rw (taken, length-take) (omega arith) in
+      let below : length rows < suc (t .used) * size f = omega (arith, suc-mul (t .used) (size f), law .wide) in
+      let few : length rows / size f < suc (t .used) = div-lt-iff-lt-mul (law .wide) .1 below in
+      omega arith
+
+  pub zeros-past : (d : A) → d ≡ f .row (replicate (length (f .widths)) 0) → (k : ℕ) → m ≤ k → d ≡ getD (rowsIn f t img) k d
+  zeros-past d none k h =
+      among-none f law rows k m count d d none h refl
+      ∙ ap (λ (s : List ℕ). firstRow f (drop (k * size f) s)) taken
+      ∙ among-row f law t img d none k

@@ -1,0 +1,21 @@
+-- What the contracts of `rows` cite beside the definitions of `model`: a row from its fields, the bytes of a row, and the bytes of a table's rows.
+use mathlib.Core.Bool.{_&&_, cond}
+use mathlib.Core.List.{List, []}
+use Prim.Native.Nat.{ℕ, _+_, _*_}
+use lib.Dec.{leb, ltb}
+use lib.ListN.{length, take, drop}
+use Rattle.model.specs.declared.Table.{Table}
+use Rattle.model.specs.Image.{Format, size, fieldsAt}
+
+module _ {A : Type 0} (f : Format A) where
+  -- the row of the fields that s begins with
+  abbrev pub rowOf : List ℕ → A
+  rowOf s = f .row (fieldsAt (f .widths) s 0)
+
+  -- the bytes of a table's rows in use, as far as they are there
+  unfoldable pub rowsSlice : Table → List ℕ → List ℕ
+  rowsSlice t s = take (t .used * size f) (drop (t .start) s)
+
+-- the bytes of row k of a table whose rows have n bytes; none where the row is not in use or runs past the end
+unfoldable pub rowSlice : Table → ℕ → ℕ → List ℕ → List ℕ
+rowSlice t n k s = cond (ltb k (t .used) && leb (t .start + k * n + n) (length s)) (take n (drop (t .start + k * n) s)) []

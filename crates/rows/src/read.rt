@@ -1,0 +1,153 @@
+// Rows read from their tables, by number. A row that is not in use, or that runs past the end, reads as the row of zeros. A row's bytes are taken as one slice, so that it is
+// asked once whether they are there.
+ghost use mathlib.Core.Path.{_≡_};
+ghost use Prim.Native.Nat.{_*_, _/_, _≤_};
+ghost use lib.ListN.{length, getD, drop};
+ghost use Rattle.model.specs.Image.{size, firstRow, rowsIn, itemIn, widthOf, subjectFormat, noSubject, grantFormat, noGrant, lineFormat, noLine, itemFormat};
+ghost use Rattle.rows.specs.Reading.{rowOf, rowSlice, rowsSlice};
+use crate::sizes::grant_size;
+use crate::sizes::item_size;
+use crate::sizes::line_size;
+use crate::sizes::privileges_at;
+use crate::sizes::privileges_size;
+use crate::sizes::subject_place;
+use crate::sizes::subject_size;
+use fields::edits::places;
+use fields::numbers::field;
+use model::GrantRow;
+use model::Item;
+use model::ItemRow;
+use model::Layout;
+use model::LineRow;
+use model::Role;
+use model::Subject;
+use model::SubjectRow;
+use model::Table;
+
+pub fn subject_at(bytes: &[u8], layout: Layout, n: u32) -> SubjectRow
+    ensures { λ r. ⌜ r ≡ getD (rowsIn (subjectFormat (widthOf layout)) (layout .subjects) (now (bytes .entry))) n noSubject ⌝ }
+{
+    let row = row_bytes(bytes, layout.subjects, subject_size(layout), n);
+    subject_in(row, layout)
+}
+
+pub fn grant_at(bytes: &[u8], layout: Layout, n: u32) -> GrantRow
+    ensures { λ r. ⌜ r ≡ getD (rowsIn (grantFormat (widthOf layout)) (layout .grants) (now (bytes .entry))) n noGrant ⌝ }
+{
+    let row = row_bytes(bytes, layout.grants, grant_size(layout), n);
+    grant_in(row, layout)
+}
+
+pub fn line_at(bytes: &[u8], layout: Layout, n: u32) -> LineRow
+    ensures { λ r. ⌜ r ≡ getD (rowsIn (lineFormat (widthOf layout)) (layout .lines) (now (bytes .entry))) n noLine ⌝ }
+{
+    let row = row_bytes(bytes, layout.lines, line_size(layout), n);
+    line_in(row, layout)
+}
+
+// Item n is row n - 1, and 0 is no item.
+pub fn item_at(bytes: &[u8], layout: Layout, item: Item) -> ItemRow
+    ensures { λ r. ⌜ r ≡ itemIn (rowsIn itemFormat (layout .items) (now (bytes .entry))) (item .0) ⌝ }
+{
+    let number = item.0;
+    if number == 0 {
+        return ItemRow::new(Subject(0), Item(0), 0);
+    }
+    let row = row_bytes(bytes, layout.items, item_size(layout), number - 1);
+    item_in(row)
+}
+
+// The bytes of row n of a table whose rows have so many bytes: all of them, or none where the row is not in use or runs past the end.
+fn row_bytes<'a>(bytes: &'a [u8], table: Table, size: usize, n: u32) -> &'a [u8]
+    requires { ⌜ size ≤ 32 ⌝ }
+    ensures { λ r. ⌜ now r ≡ rowSlice table size n (now (bytes .entry)) ⌝ }
+{
+    if table.used <= n {
+        return &bytes[..0];
+    }
+    let at = table.start as usize + n as usize * size;
+    if places(bytes, size) <= at {
+        return &bytes[..0];
+    }
+    let end = at + size;
+    &bytes[at..end]
+}
+
+// The row of the fields that some bytes begin with. A field that is not there is 0, so no bytes are the row of zeros.
+fn subject_in(row: &[u8], layout: Layout) -> SubjectRow
+    ensures { λ r. ⌜ r ≡ rowOf (subjectFormat (widthOf layout)) (now (row .entry)) ⌝ }
+{
+    let at_creator = 4 + privileges_size(layout);
+    SubjectRow::new(
+        Subject(field(row, 0)),
+        privileges_at(row, layout, 4),
+        Subject(field(row, at_creator)),
+    )
+}
+
+fn grant_in(row: &[u8], layout: Layout) -> GrantRow
+    ensures { λ r. ⌜ r ≡ rowOf (grantFormat (widthOf layout)) (now (row .entry)) ⌝ }
+{
+    GrantRow::new(
+        Subject(field(row, 0)),
+        Role(field(row, 4)),
+        Subject(field(row, 8)),
+        Subject(field(row, 12)),
+        privileges_at(row, layout, 16),
+    )
+}
+
+fn line_in(row: &[u8], layout: Layout) -> LineRow
+    ensures { λ r. ⌜ r ≡ rowOf (lineFormat (widthOf layout)) (now (row .entry)) ⌝ }
+{
+    LineRow::new(
+        Item(field(row, 0)),
+        field(row, 4),
+        Subject(field(row, 8)),
+        privileges_at(row, layout, 12),
+    )
+}
+
+fn item_in(row: &[u8]) -> ItemRow
+    ensures { λ r. ⌜ r ≡ rowOf itemFormat (now (row .entry)) ⌝ }
+{
+    ItemRow::new(Subject(field(row, 0)), Item(field(row, 4)), field(row, 8))
+}
+
+// The bytes of the subjects' rows in use, as far as they are there. A pass or a climb takes them once, and then asks of each row no more than whether it is among
+// them.
+pub fn subject_rows<'a>(bytes: &'a [u8], layout: Layout) -> &'a [u8]
+    ensures { λ r. ⌜ now r ≡ rowsSlice (subjectFormat (widthOf layout)) (layout .subjects) (now (bytes .entry)) ⌝ }
+{
+    let table = layout.subjects;
+    let start = table.start as usize;
+    if bytes.len() <= start {
+        return &bytes[..0];
+    }
+    let end = subject_place(layout, table.used);
+    if bytes.len() < end {
+        return &bytes[start..];
+    }
+    &bytes[start..end]
+}
+
+// How many whole rows such bytes are.
+pub fn whole_subjects(rows: &[u8], layout: Layout) -> usize
+    ensures { λ r. ⌜ r ≡ length (now (rows .entry)) / size (subjectFormat (widthOf layout)) ⌝ }
+{
+    rows.len() / subject_size(layout)
+}
+
+// Row n of such bytes. A row that is not among them, or not whole, is the row of zeros. It is asked by the number, not by the byte: of a pass or a climb how many
+// rows there are is then computed once.
+pub fn subject_among(rows: &[u8], layout: Layout, n: u32) -> SubjectRow
+    ensures { λ r. ⌜ r ≡ firstRow (subjectFormat (widthOf layout)) (drop (n * size (subjectFormat (widthOf layout))) (now (rows .entry))) ⌝ }
+{
+    if whole_subjects(rows, layout) <= n as usize {
+        return SubjectRow::new(Subject(0), 0, Subject(0));
+    }
+    let size = subject_size(layout);
+    let at = n as usize * size;
+    let end = at + size;
+    subject_in(&rows[at..end], layout)
+}

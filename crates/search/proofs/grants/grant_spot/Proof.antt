@@ -1,0 +1,33 @@
+-- `search::grants::grant_spot` meets its contract: a search is a look at the key's sorted place.
+use borrow.Author.Needs.{needs}
+use Rattle.search.specs.SpotLaws.{spot-new, spot-read}
+use Rattle.model.specs.Image.{tablesBy}
+use Rattle.search.specs.Ranks.{found-past, found-other}
+use Rattle.search.proofs.grants.grant_spot.Statement.{statement}
+use Rattle.search.proofs.grants.grant_spot.Tie as tie
+
+grant-rank-requires : tie.Need-grant-rank-requires
+grant-rank-requires c κs = search needs
+
+returns : tie.Need-returns
+unfolding tablesBy
+returns c = search (spot-new, found-past)
+
+grant-at-requires : tie.Need-grant-at-requires
+grant-at-requires c κs = search needs
+
+is-grant-requires : tie.Need-is-grant-requires
+is-grant-requires c κs = search needs
+
+returns-2 : tie.Need-returns-2
+unfolding tablesBy
+returns-2 c = search (spot-new, found-other)
+
+returns-3 : tie.Need-returns-3
+unfolding tablesBy
+returns-3 c = search spot-read
+
+pub grant-spot-spec : {M : Type 1} → statement M
+grant-spot-spec =
+    tie.close
+    (tie.spec grant-rank-requires returns grant-at-requires is-grant-requires returns-2 returns-3)

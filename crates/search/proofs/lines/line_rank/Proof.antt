@@ -1,0 +1,56 @@
+-- `search::lines::line_rank` meets its contract: the rows passed all have a lower key.
+use mathlib.Core.List.{[], _∷_}
+use Prim.Native.Nat.{_-_}
+use native.Mathlib.Omega.{arith}
+use borrow.Author.Needs.{needs}
+use Rattle.model.specs.Image.{tablesBy, widthOf, lineFormat, lineKey, noLine}
+use Rattle.search.specs.Ranks.{Counted, none-counted, counted-here, counted-next, counted-all}
+use Rattle.search.proofs.lines.line_rank.Statement.{statement}
+use Rattle.search.proofs.lines.line_rank.Tie as tie
+
+abbrev Inv-loop : tie.InvT-loop
+Inv-loop image layout list kind subject used n₀ n = Counted (lineFormat (widthOf layout)) lineKey (layout .lines) image (list .0 ∷ kind ∷ subject .0 ∷ []) noLine n
+
+abbrev μ-loop : tie.MeasureT-loop
+μ-loop image layout list kind subject used n₀ n = used - n
+
+loop-holds : tie.Need-loop-holds Inv-loop μ-loop
+loop-holds c = search none-counted
+
+line-at-requires : tie.Need-line-at-requires Inv-loop μ-loop
+line-at-requires c κs = search needs
+
+line-before-requires : tie.Need-line-before-requires Inv-loop μ-loop
+line-before-requires c κs = search needs
+
+returns : tie.Need-returns Inv-loop μ-loop
+unfolding tablesBy
+returns c = search counted-here
+
+add-n : tie.Need-add-n Inv-loop μ-loop
+add-n c = omega arith
+
+loop-less : tie.Need-loop-less Inv-loop μ-loop
+loop-less c = omega arith
+
+loop-again : tie.Need-loop-again Inv-loop μ-loop
+loop-again c = search counted-next
+
+returns-2 : tie.Need-returns-2 Inv-loop μ-loop
+unfolding tablesBy
+returns-2 c = search counted-all
+
+pub line-rank-spec : {M : Type 1} → statement M
+line-rank-spec =
+    tie.close
+    (tie.spec
+    Inv-loop
+    μ-loop
+    loop-holds
+    line-at-requires
+    line-before-requires
+    returns
+    add-n
+    loop-less
+    loop-again
+    returns-2)

@@ -1,0 +1,80 @@
+// Grants by key: receiver, then role.
+ghost use mathlib.Core.List.{[], _∷_};
+ghost use mathlib.Core.Path.{_≡_};
+ghost use Rattle.model.specs.Sorted.{before, same, place, find};
+ghost use Rattle.model.specs.Image.{tablesBy, grantKey};
+ghost use Rattle.search.specs.Spots.{spotIn};
+ghost use Rattle.model.specs.Permission.{foundGrant};
+use crate::Spot;
+use model::GrantRow;
+use model::Layout;
+use model::Role;
+use model::SoughtGrant;
+use model::Subject;
+use rows::read::grant_at;
+
+// The row's key is lower than this one.
+pub fn grant_before(row: GrantRow, receiver: Subject, role: Role) -> bool
+    ensures { λ r. ⌜ r ≡ before (grantKey row) (receiver .0 ∷ role .0 ∷ []) ⌝ }
+{
+    if row.receiver.0 != receiver.0 {
+        return row.receiver.0 < receiver.0;
+    }
+    row.role.0 < role.0
+}
+
+// The row's key is this one.
+pub fn is_grant(row: GrantRow, receiver: Subject, role: Role) -> bool
+    ensures { λ r. ⌜ r ≡ same (grantKey row) (receiver .0 ∷ role .0 ∷ []) ⌝ }
+{
+    if row.receiver.0 != receiver.0 {
+        return false;
+    }
+    row.role.0 == role.0
+}
+
+// The sorted place of a key: the number of rows with a lower one. The pass ends at the first row that is not lower.
+pub fn grant_rank(image: &[u8], layout: Layout, receiver: Subject, role: Role) -> u32
+    ensures { λ r. ⌜ r ≡ place grantKey (receiver .0 ∷ role .0 ∷ []) (tablesBy layout (now (image .entry)) .grants) ⌝ }
+{
+    let table = layout.grants;
+    let used = table.used;
+    let mut n = 0;
+    while n < used {
+        if !grant_before(grant_at(image, layout, n), receiver, role) {
+            return n;
+        }
+        n += 1;
+    }
+    n
+}
+
+pub fn find_grant(image: &[u8], layout: Layout, receiver: Subject, role: Role) -> SoughtGrant
+    ensures { λ r. ⌜ foundGrant r ≡ find grantKey (receiver .0 ∷ role .0 ∷ []) (tablesBy layout (now (image .entry)) .grants) ⌝ }
+{
+    let table = layout.grants;
+    let rank = grant_rank(image, layout, receiver, role);
+    if table.used <= rank {
+        return SoughtGrant::NoGrant;
+    }
+    let row = grant_at(image, layout, rank);
+    if !is_grant(row, receiver, role) {
+        return SoughtGrant::NoGrant;
+    }
+    SoughtGrant::Grant(row)
+}
+
+// Where the row with a key goes. One search answers it, and the questions of a call and its change share the answer.
+pub fn grant_spot(image: &[u8], layout: Layout, receiver: Subject, role: Role) -> Spot
+    ensures { λ r. ⌜ r ≡ spotIn grantKey (receiver .0 ∷ role .0 ∷ []) (tablesBy layout (now (image .entry)) .grants) ⌝ }
+{
+    let table = layout.grants;
+    let rank = grant_rank(image, layout, receiver, role);
+    if table.used <= rank {
+        return Spot::New(rank);
+    }
+    if !is_grant(grant_at(image, layout, rank), receiver, role) {
+        return Spot::New(rank);
+    }
+    Spot::Over(rank)
+}

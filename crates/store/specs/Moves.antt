@@ -1,0 +1,31 @@
+-- A row stored in a table and a row taken out of it, as bytes: the edit of the rows in use, and the count of them in the header.
+use mathlib.Core.Bool.{_&&_, cond}
+use mathlib.Core.List.{List, _++_}
+use Prim.Native.Nat.{ℕ, _+_, _-_, _*_}
+use lib.Dec.{leb}
+use lib.ListN.{length, take, drop}
+use Rattle.model.specs.declared.Table.{Table}
+use Rattle.model.specs.Image.{bytesOf}
+use Rattle.fields.specs.Edits.{putBytes, insertBytes, removeBytes}
+use Rattle.search.specs.declared.Spot.{Spot}
+use Rattle.search.specs.declared.Spot.the-variants.{Over, New}
+
+-- the first e bytes of s edited
+abbrev pub inFirst : ℕ → (List ℕ → List ℕ) → List ℕ → List ℕ
+inFirst e edit s = edit (take e s) ++ drop e s
+
+-- A row put in at a place of a table whose used rows end at a byte, and counted. The place is meant to be one among the rows or right behind them: at any
+-- other nothing is put in, and it is counted all the same.
+unfoldable pub rowAdded : List ℕ → ℕ → ℕ → ℕ → ℕ → List ℕ → List ℕ
+rowAdded s counter used at end row =
+    cond (leb (end + length row) (length s)) (putBytes (inFirst (end + length row) (λ p. insertBytes p at row) s) counter (bytesOf 4 (used + 1))) s
+
+-- The n bytes of a row taken out at a place of such a table, and no longer counted; of a place that is none of its rows, only the count.
+unfoldable pub rowTaken : List ℕ → ℕ → ℕ → ℕ → ℕ → ℕ → List ℕ
+rowTaken s counter used at end n =
+    cond (leb end (length s) && leb 1 used) (putBytes (inFirst end (λ p. removeBytes p at n) s) counter (bytesOf 4 (used - 1))) s
+
+-- The bytes of a row stored at a spot of a table whose rows are as long: in the place of those that are there, or put in and counted.
+abbrev pub rowStored : ℕ → Table → Spot → List ℕ → List ℕ → List ℕ
+rowStored counter t (Over n) row s = putBytes s (t .start + n * length row) row
+rowStored counter t (New n) row s = rowAdded s counter (t .used) (t .start + n * length row) (t .start + t .used * length row) row

@@ -1,0 +1,140 @@
+// Rows stored in the tables of an image and taken out of them, each with its count in the header. A new subject or item is the table's last row; a grant or a
+// line goes to the spot that a search found. No function asks whether a row is free: the questions before a call do.
+ghost use mathlib.Core.Path.{_≡_};
+ghost use Rattle.model.specs.Image.{widthOf, subjectFormat, grantFormat, lineFormat, itemFormat};
+ghost use Rattle.store.specs.Stores.{subjectsCounter, grantsCounter, linesCounter, itemsCounter, withRow, withoutRow, overItem, storedAt};
+use crate::moves::store_row;
+use crate::moves::take_row;
+use model::GrantRow;
+use model::Item;
+use model::ItemRow;
+use model::Layout;
+use model::LineRow;
+use model::SubjectRow;
+use rows::sizes::grant_size;
+use rows::sizes::item_size;
+use rows::sizes::line_size;
+use rows::sizes::subject_size;
+use rows::write::put_grant;
+use rows::write::put_item;
+use rows::write::put_line;
+use rows::write::put_subject;
+use search::Spot;
+
+mod moves;
+
+// What the questions of a call that sets a row come to: where the row goes, or the number of the refusal.
+pub enum Storing {
+    At(Spot),
+    Refused(u32),
+}
+
+// What the questions of a call that removes a row come to: which row, or the number of the refusal.
+pub enum Removing {
+    Row(u32),
+    Refused(u32),
+}
+
+pub fn add_subject(image: &mut [u8], layout: Layout, row: SubjectRow)
+    ensures { λ _. ⌜ now (image .exit) ≡ withRow (subjectFormat (widthOf layout)) subjectsCounter (layout .subjects) (layout .subjects .used) row (now (image .entry)) ⌝ }
+{
+    let table = layout.subjects;
+    let mut bytes = [0; SubjectRow::SIZE];
+    put_subject(&mut bytes, layout, 0, row);
+    store_row(
+        image,
+        Layout::SUBJECTS_USED,
+        table,
+        subject_size(layout),
+        Spot::New(table.used),
+        &bytes,
+    );
+}
+
+pub fn add_item(image: &mut [u8], layout: Layout, row: ItemRow)
+    ensures { λ _. ⌜ now (image .exit) ≡ withRow itemFormat itemsCounter (layout .items) (layout .items .used) row (now (image .entry)) ⌝ }
+{
+    let table = layout.items;
+    store_item(image, layout, Spot::New(table.used), row);
+}
+
+// An item's row anew. 0 is no item.
+pub fn replace_item(image: &mut [u8], layout: Layout, item: Item, row: ItemRow)
+    ensures { λ _. ⌜ now (image .exit) ≡ overItem (layout .items) (item .0) row (now (image .entry)) ⌝ }
+{
+    let number = item.0;
+    if number == 0 {
+        return;
+    }
+    let n = number - 1;
+    store_item(image, layout, Spot::Over(n), row);
+}
+
+fn store_item(image: &mut [u8], layout: Layout, spot: Spot, row: ItemRow)
+    ensures { λ _. ⌜ now (image .exit) ≡ storedAt itemFormat itemsCounter (layout .items) spot row (now (image .entry)) ⌝ }
+{
+    let mut bytes = [0; ItemRow::SIZE];
+    put_item(&mut bytes, layout, 0, row);
+    store_row(
+        image,
+        Layout::ITEMS_USED,
+        layout.items,
+        item_size(layout),
+        spot,
+        &bytes,
+    );
+}
+
+pub fn store_grant(image: &mut [u8], layout: Layout, spot: Spot, row: GrantRow)
+    ensures { λ _. ⌜ now (image .exit) ≡ storedAt (grantFormat (widthOf layout)) grantsCounter (layout .grants) spot row (now (image .entry)) ⌝ }
+{
+    let mut bytes = [0; GrantRow::SIZE];
+    put_grant(&mut bytes, layout, 0, row);
+    store_row(
+        image,
+        Layout::GRANTS_USED,
+        layout.grants,
+        grant_size(layout),
+        spot,
+        &bytes,
+    );
+}
+
+pub fn take_grant(image: &mut [u8], layout: Layout, n: u32)
+    ensures { λ _. ⌜ now (image .exit) ≡ withoutRow (grantFormat (widthOf layout)) grantsCounter (layout .grants) n (now (image .entry)) ⌝ }
+{
+    take_row(
+        image,
+        Layout::GRANTS_USED,
+        layout.grants,
+        grant_size(layout),
+        n,
+    );
+}
+
+pub fn store_line(image: &mut [u8], layout: Layout, spot: Spot, row: LineRow)
+    ensures { λ _. ⌜ now (image .exit) ≡ storedAt (lineFormat (widthOf layout)) linesCounter (layout .lines) spot row (now (image .entry)) ⌝ }
+{
+    let mut bytes = [0; LineRow::SIZE];
+    put_line(&mut bytes, layout, 0, row);
+    store_row(
+        image,
+        Layout::LINES_USED,
+        layout.lines,
+        line_size(layout),
+        spot,
+        &bytes,
+    );
+}
+
+pub fn take_line(image: &mut [u8], layout: Layout, n: u32)
+    ensures { λ _. ⌜ now (image .exit) ≡ withoutRow (lineFormat (widthOf layout)) linesCounter (layout .lines) n (now (image .entry)) ⌝ }
+{
+    take_row(
+        image,
+        Layout::LINES_USED,
+        layout.lines,
+        line_size(layout),
+        n,
+    );
+}

@@ -1,0 +1,96 @@
+// A row stored in a table or taken out of it, with the count in the header: for every table, told only bytes and plain numbers.
+ghost use mathlib.Core.Path.{_≡_};
+ghost use Prim.Native.Nat.{_+_, _*_, _≤_, _<_};
+ghost use lib.ListN.{length, take};
+ghost use Rattle.store.specs.Moves.{rowAdded, rowTaken, rowStored};
+use fields::edits::insert_row;
+use fields::edits::places;
+use fields::edits::remove_row;
+use fields::edits::replace_row;
+use fields::numbers::put_field;
+use model::Table;
+use search::Spot;
+use std::num::wrapping_add_u32;
+
+// A row of so many bytes stored at a spot. The bytes that are lent begin with it and may be more.
+pub fn store_row(
+    image: &mut [u8],
+    counter: usize,
+    table: Table,
+    size: usize,
+    spot: Spot,
+    bytes: &[u8],
+)
+    requires { ⌜ size ≤ 32 ⌝ }
+    requires { ⌜ size ≤ length (now bytes) ⌝ }
+    ensures { λ _. ⌜ now (image .exit) ≡ rowStored counter table spot (take size (now (bytes .entry))) (now (image .entry)) ⌝ }
+{
+    store_whole(image, counter, table, spot, &bytes[..size]);
+}
+
+// Over the row that is there, or put in as a new one.
+fn store_whole(image: &mut [u8], counter: usize, table: Table, spot: Spot, row: &[u8])
+    requires { ⌜ length (now row) ≤ 32 ⌝ }
+    ensures { λ _. ⌜ now (image .exit) ≡ rowStored counter table spot (now (row .entry)) (now (image .entry)) ⌝ }
+{
+    match spot {
+        Spot::Over(n) => replace_row(image, offset_of(table, row.len(), n), row),
+        Spot::New(n) => add_row(
+            image,
+            counter,
+            table.used,
+            offset_of(table, row.len(), n),
+            offset_of(table, row.len(), table.used),
+            row,
+        ),
+    }
+}
+
+// Row n of a table taken out.
+pub fn take_row(image: &mut [u8], counter: usize, table: Table, size: usize, n: u32)
+    requires { ⌜ size ≤ 32 ⌝ }
+    ensures { λ _. ⌜ now (image .exit) ≡ rowTaken (now (image .entry)) counter (table .used) (table .start + n * size) (table .start + table .used * size) size ⌝ }
+{
+    close_row(
+        image,
+        counter,
+        table.used,
+        offset_of(table, size, n),
+        offset_of(table, size, table.used),
+        size,
+    );
+}
+
+// Where row n of a table begins.
+fn offset_of(table: Table, size: usize, n: u32) -> usize
+    requires { ⌜ size ≤ 32 ⌝ }
+    ensures { λ r. ⌜ r ≡ table .start + n * size ⌝ }
+{
+    table.start as usize + n as usize * size
+}
+
+// A row put in at a byte: the rows in use from there to their end move up into the free row behind them, and no byte further on is touched.
+fn add_row(image: &mut [u8], counter: usize, used: u32, at: usize, end: usize, row: &[u8])
+    ensures { λ _. ⌜ now (image .exit) ≡ rowAdded (now (image .entry)) counter used at end (now (row .entry)) ⌝ }
+{
+    if places(image, row.len()) <= end {
+        return;
+    }
+    let behind = end + row.len();
+    insert_row(&mut image[..behind], at, row);
+    put_field(image, counter, wrapping_add_u32(used, 1));
+}
+
+// The row at a byte taken out: the rows in use behind it close up, and the row that this frees at their end is left zero.
+fn close_row(image: &mut [u8], counter: usize, used: u32, at: usize, end: usize, size: usize)
+    ensures { λ _. ⌜ now (image .exit) ≡ rowTaken (now (image .entry)) counter used at end size ⌝ }
+{
+    if image.len() < end {
+        return;
+    }
+    if used == 0 {
+        return;
+    }
+    remove_row(&mut image[..end], at, size);
+    put_field(image, counter, used - 1);
+}

@@ -1,0 +1,47 @@
+// Whether a table has a row that is not in use, which question 19 asks where a row is added.
+ghost use mathlib.Core.Path.{_≡_};
+ghost use Prim.Native.Nat.{_<_};
+ghost use lib.Dec.{ltb};
+ghost use Rattle.model.specs.Image.{roomBy, roomsBy};
+use model::Layout;
+use model::Table;
+use rows::sizes::grant_size;
+use rows::sizes::item_size;
+use rows::sizes::line_size;
+use rows::sizes::subject_size;
+
+pub fn subject_free(layout: Layout) -> bool
+    ensures { λ r. ⌜ r ≡ ltb (layout .subjects .used) (roomsBy layout .subjects) ⌝ }
+{
+    has_free(layout.subjects, subject_size(layout))
+}
+
+pub fn grant_free(layout: Layout) -> bool
+    ensures { λ r. ⌜ r ≡ ltb (layout .grants .used) (roomsBy layout .grants) ⌝ }
+{
+    has_free(layout.grants, grant_size(layout))
+}
+
+pub fn line_free(layout: Layout) -> bool
+    ensures { λ r. ⌜ r ≡ ltb (layout .lines .used) (roomsBy layout .lines) ⌝ }
+{
+    has_free(layout.lines, line_size(layout))
+}
+
+pub fn item_free(layout: Layout) -> bool
+    ensures { λ r. ⌜ r ≡ ltb (layout .items .used) (roomsBy layout .items) ⌝ }
+{
+    has_free(layout.items, item_size(layout))
+}
+
+// A table that ends before it starts has no room.
+fn has_free(table: Table, size: usize) -> bool
+    requires { ⌜ 0 < size ⌝ }
+    ensures { λ r. ⌜ r ≡ ltb (table .used) (roomBy size table) ⌝ }
+{
+    if table.end < table.start {
+        return false;
+    }
+    let extent = (table.end - table.start) as usize;
+    (table.used as usize) < extent / size
+}

@@ -1,0 +1,109 @@
+//! The stack that the library promises to stay within: every call that searches groups, on the
+//! deepest chains of groups that an image can hold, on a thread that has just so much.
+
+mod support;
+mod twin;
+
+use dacm::privileges::{ALL, EDIT_LIST, READ};
+use dacm::{Item, Kind, Refusal, Role, Subject, STACK_BYTES};
+use std::thread;
+use support::tables::{Table, Tables};
+
+const ITSELF: u32 = 0;
+const GROUP: u32 = 1;
+const IS_LIST: u32 = 1;
+const LONGEST: usize = 65_536;
+const SUBJECT_BYTES: usize = 12;
+
+/// Every subject below the one before, as many as fit beside these rows. The list is its own, and
+/// the custodian's.
+fn chain(grants: Vec<[u32; 5]>, lines: Vec<[u32; 4]>) -> Tables {
+    let mut tables = Tables {
+        subjects: Table::default(),
+        grants: Table {
+            rows: grants,
+            spare: 0,
+        },
+        lines: Table {
+            rows: lines,
+            spare: 0,
+        },
+        items: Table {
+            rows: vec![[0, 1, IS_LIST]],
+            spare: 0,
+        },
+    };
+    let many = (LONGEST - tables.image().len()) / SUBJECT_BYTES;
+    let below = (1..many as u32).map(|number| [number - 1, ALL, number - 1]);
+    tables.subjects.rows = [[0, ALL, 0]].into_iter().chain(below).collect();
+    tables
+}
+
+/// Runs something on a thread with the promised stack and no more. A thread that needs more ends
+/// the whole test program.
+fn on_promised_stack<T: Send + 'static>(work: impl FnOnce() -> T + Send + 'static) -> T {
+    let thread = thread::Builder::new().stack_size(STACK_BYTES).spawn(work);
+    thread
+        .expect("a thread with the promised stack")
+        .join()
+        .expect("the calls return")
+}
+
+/// What every call that searches groups answers for the deepest subject, under no role.
+fn answers(mut image: Vec<u8>, deepest: Subject) -> [Result<u32, Refusal>; 4] {
+    let list = Item(1);
+    let set = dacm::permission_set(&image, deepest, Role::NONE, list);
+    let editor = dacm::find_editor(&image, list).map(|subject| subject.0);
+    let (own, none, other) = (Kind::ITSELF, Role::NONE, Subject(1));
+    let line = dacm::set_line(&mut image, deepest, none, list, own, other, READ).map(|()| 0);
+    let gone = dacm::remove_line(&mut image, deepest, none, list, own, other).map(|()| 0);
+    [set, editor, line, gone]
+}
+
+#[test]
+fn no_group_line_at_all() {
+    let tables = chain(vec![], vec![]);
+    let deepest = Subject(tables.subjects.used() as u32 - 1);
+    assert_eq!(
+        deepest,
+        Subject(5_456),
+        "the deepest chain that an image holds"
+    );
+    let image = tables.image();
+    let answers = on_promised_stack(move || answers(image, deepest));
+    let refused = Err(Refusal::Right);
+    assert_eq!(answers, [Ok(0), Err(Refusal::NoEditor), refused, refused]);
+}
+
+#[test]
+fn a_group_line_at_the_top() {
+    let mut tables = chain(vec![], vec![[1, GROUP, 0, EDIT_LIST | READ]; 2]);
+    tables.lines.rows.pop();
+    tables.lines.spare = 1;
+    let deepest = Subject(tables.subjects.used() as u32 - 1);
+    let image = tables.image();
+    let answers = on_promised_stack(move || answers(image, deepest));
+    assert_eq!(answers, [Ok(EDIT_LIST | READ), Ok(1), Ok(0), Ok(0)]);
+}
+
+/// Under a role the search is made twice, for the asker and for the role's grantor.
+#[test]
+fn under_a_role() {
+    let grant = |asker: u32| vec![[asker, 7, asker - 1, asker - 1, ALL]];
+    let many = chain(grant(1), vec![[1, ITSELF, 0, 0]]).subjects.used() as u32;
+    let (asker, grantor) = (many - 1, many - 2);
+    let mut tables = chain(grant(asker), vec![[1, ITSELF, grantor, READ]]);
+    tables.items.rows[0][0] = grantor;
+    let image = tables.image();
+    let set =
+        on_promised_stack(move || dacm::permission_set(&image, Subject(asker), Role(7), Item(1)));
+    assert_eq!(set, Ok(0));
+}
+
+/// The header promises the same.
+#[test]
+fn the_header_says_so() {
+    let header = include_str!("../../include/dacm.h");
+    let line = format!("#define DACM_STACK_BYTES {STACK_BYTES}\n");
+    assert!(header.contains(&line), "{line}");
+}
