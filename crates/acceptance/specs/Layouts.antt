@@ -5,7 +5,7 @@ use Prim.Native.Nat.{ℕ, _<_}
 use Rattle.model.specs.declared.Table.{Table}
 use Rattle.model.specs.declared.Layout.{Layout}
 use Rattle.model.specs.Image.{Format, size, liesBy, subjectFormat, grantFormat, lineFormat, itemFormat, widthOf}
-use Rattle.laws.specs.Tests.{and-no, and-yes, said-no, said-yes}
+use Rattle.laws.specs.Tests.{and-no, and-yes, and-last, said-no, said-yes}
 use Rattle.laws.specs.Rows.{Lawful, subject-lawful, grant-lawful, line-lawful, item-lawful}
 
 -- No row is empty: what a table's rules ask of the size. n is the size as a callee told it.
@@ -36,3 +36,6 @@ module _ (t : Table) (n m : ℕ) (b rest : Bool) (told : b ≡ liesBy n t) (size
 
   pub lies-yes : (r : Bool) → not b ≡ false → r ≡ rest → r ≡ (liesBy m t && rest)
   lies-yes r h e = and-yes (liesBy m t) rest r (said-yes (liesBy m t) b lies-sized h) e
+
+  pub lies-last : b ≡ (liesBy m t && true)
+  lies-last = and-last (liesBy m t) b lies-sized

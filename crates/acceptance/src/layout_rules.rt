@@ -3,15 +3,15 @@ ghost use mathlib.Core.Bool.{_&&_};
 ghost use mathlib.Core.Path.{_≡_};
 ghost use Prim.Native.Nat.{_<_};
 ghost use lib.Dec.{leb};
-ghost use lib.ListN.{length};
+ghost use lib.ListN.{length, take};
 ghost use Rattle.model.specs.Lists.{allOf};
-ghost use Rattle.model.specs.Image.{shortestImage, longestImage, layoutRules, headerRules, tableRules, liesBy};
+ghost use Rattle.model.specs.Image.{shortestImage, longestImage, headerRules, tableRules, liesBy};
 use model::Layout;
 use model::Table;
-use rows::sizes::grant_size;
-use rows::sizes::item_size;
-use rows::sizes::line_size;
-use rows::sizes::subject_size;
+use sizes::grant_size;
+use sizes::item_size;
+use sizes::line_size;
+use sizes::subject_size;
 
 pub fn length_fits(image: &[u8]) -> bool
     ensures { λ r. ⌜ r ≡ (leb shortestImage (length (now (image .entry))) && leb (length (now (image .entry))) longestImage) ⌝ }
@@ -22,17 +22,8 @@ pub fn length_fits(image: &[u8]) -> bool
     image.len() <= Layout::LONGEST
 }
 
-pub fn layout_holds(image: &[u8], layout: Layout) -> bool
-    ensures { λ r. ⌜ r ≡ allOf (layoutRules layout (now (image .entry))) ⌝ }
-{
-    if !header_holds(image, layout) {
-        return false;
-    }
-    tables_lie(layout)
-}
-
 // The recorded total is the length, and the first table begins behind the header.
-fn header_holds(image: &[u8], layout: Layout) -> bool
+pub fn header_holds(image: &[u8], layout: Layout) -> bool
     ensures { λ r. ⌜ r ≡ allOf (headerRules layout (now (image .entry))) ⌝ }
 {
     let items = layout.items;
@@ -43,12 +34,11 @@ fn header_holds(image: &[u8], layout: Layout) -> bool
     subjects.start as usize == Layout::HEADER
 }
 
-// Every table lies right, and a subject is in use.
-fn tables_lie(layout: Layout) -> bool
-    ensures { λ r. ⌜ r ≡ allOf (tableRules layout) ⌝ }
+// Every table lies right: the rules of the tables but for the last.
+pub fn tables_lie(layout: Layout) -> bool
+    ensures { λ r. ⌜ r ≡ allOf (take 4 (tableRules layout)) ⌝ }
 {
-    let subjects = layout.subjects;
-    if !lies(subjects, subject_size(layout)) {
+    if !lies(layout.subjects, subject_size(layout)) {
         return false;
     }
     if !lies(layout.grants, grant_size(layout)) {
@@ -57,9 +47,14 @@ fn tables_lie(layout: Layout) -> bool
     if !lies(layout.lines, line_size(layout)) {
         return false;
     }
-    if !lies(layout.items, item_size(layout)) {
-        return false;
-    }
+    lies(layout.items, item_size(layout))
+}
+
+// The last: a subject is in use.
+pub fn has_subject(layout: Layout) -> bool
+    ensures { λ r. ⌜ r ≡ leb 1 (layout .subjects .used) ⌝ }
+{
+    let subjects = layout.subjects;
     1 <= subjects.used
 }
 

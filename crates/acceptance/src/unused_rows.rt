@@ -5,10 +5,10 @@ ghost use lib.ListN.{take, drop};
 ghost use Rattle.model.specs.Lists.{allOf, zeros};
 ghost use Rattle.model.specs.Image.{unusedRules};
 use model::Layout;
-use rows::sizes::grant_place;
-use rows::sizes::item_place;
-use rows::sizes::line_place;
-use rows::sizes::subject_place;
+use sizes::grant_place;
+use sizes::item_place;
+use sizes::line_place;
+use sizes::subject_place;
 
 pub fn unused_is_zero(image: &[u8], layout: Layout) -> bool
     ensures { λ r. ⌜ r ≡ allOf (unusedRules layout (now (image .entry))) ⌝ }

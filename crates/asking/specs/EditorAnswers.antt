@@ -18,7 +18,8 @@ use Rattle.model.specs.Calls.{isEditor}
 use Rattle.model.specs.Questions.{firstNo, imageQuestions, editorQuestions, answer, opened, EditorAnswer}
 use Rattle.laws.specs.Tests.{le-or-lt, true-T, T-true, every-at, every-by}
 use Rattle.laws.specs.Answers.{asked-no, asked-yes, asked-all}
-use Rattle.asking.specs.Editors.{Editor, not-used}
+use Rattle.asking.specs.Found.{Editor}
+use Rattle.asking.specs.Editors.{not-used}
 use Rattle.laws.specs.Opens.{refused-by, layout-with}
 use Rattle.laws.specs.Asks.{number-image, number-own}
 

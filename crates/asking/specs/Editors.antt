@@ -14,13 +14,9 @@ use Rattle.model.specs.Permission.{permissionSet}
 use Rattle.model.specs.Calls.{isEditor}
 use Rattle.laws.specs.Tests.{two, le-or-lt, lt-eq-gt}
 use Rattle.laws.specs.Rows.{rows-count}
+use Rattle.asking.specs.Found.{Editor}
 
 module _ (t : Tables) (a : ℕ) where
-  -- r is an editor, or 0 where there is none
-  pub record Editor (r : ℕ) : Type 0 where
-    pub nobody : r ≡ 0 → (s : ℕ) → isEditor t s a ≡ false
-    pub somebody : (r ≡ 0 → ⊥) → isEditor t r a ≡ true
-
   -- no subject below n is an editor
   pub record Tried (n : ℕ) : Type 0 where
     pub after-custodian : 1 ≤ n
@@ -44,7 +40,7 @@ module _ (t : Tables) (a : ℕ) where
           let other : n ≡ 0 → ⊥ = λ z. omega (arith, tried .after-custodian) in
           rw (lt-ltb n (length (t .subjects)) there, ne-eqb n 0 other) (sym asked)
 
-      pub tried-here : b ≡ true → Editor n
+      pub tried-here : b ≡ true → Editor t a n
       tried-here e = record { nobody = λ z. absurd (omega (arith, tried .after-custodian)); somebody = λ d. looked ∙ e }
 
       pub tried-next : b ≡ false → Tried (n + 1)
@@ -58,7 +54,7 @@ module _ (t : Tables) (a : ℕ) where
                 | inr (inr high) ↦ absurd (omega arith)
               ]
 
-    pub tried-all : u ≤ n → Editor 0
+    pub tried-all : u ≤ n → Editor t a 0
     tried-all h = record { nobody = λ z. all; somebody = λ d. absurd (d refl) }
       where
         all : (s : ℕ) → isEditor t s a ≡ false

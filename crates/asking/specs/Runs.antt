@@ -18,15 +18,7 @@ use Rattle.model.specs.Calls.{rowsOf, rowsBefore}
 use Rattle.laws.specs.Tests.{two, or-cases, and-l, and-r, eq-or-ne}
 use Rattle.laws.specs.Sorted.{ascending-tail, place-counts}
 use Rattle.laws.specs.Rows.{rows-count, rows-next}
-
--- the lowest key of list a
-abbrev pub lowest : ℕ → List ℕ
-lowest a = a ∷ 0 ∷ 0 ∷ []
-
--- how many rows at the head name list a
-unfoldable pub leading : ℕ → List LineRow → ℕ
-leading a [] = 0
-leading a (l ∷ ls) = cond (eqb (l .list .0) a) (suc (leading a ls)) 0
+use Rattle.asking.specs.Found.{lowest, leading}
 
 pub leading-few : (a : ℕ) (rows : List LineRow) → leading a rows ≤ length rows
 unfolding leading

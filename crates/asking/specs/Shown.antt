@@ -18,7 +18,7 @@ use Rattle.asking.specs.declared.list_rows.ListRows.the-variants as list
 use Rattle.model.specs.Lists.{every}
 use Rattle.model.specs.Sorted.{place, ascending}
 use Rattle.model.specs.Image.{layoutOf, tablesBy, tables, size, lineFormat, widthOf, isList, lineKey, lineRules, linesHold}
-use Rattle.model.specs.Calls.{rowsOf, rowsBefore, told}
+use Rattle.model.specs.Calls.{rowsOf, told}
 use Rattle.model.specs.Calls.Ask.{countLines}
 use Rattle.model.specs.Questions.{answer, check, opened, ask, askQuestions, imageQuestions, shows, partStart, partLength, partBytes}
 use Rattle.laws.specs.Tests.{and-r}
@@ -30,20 +30,8 @@ use Rattle.laws.specs.Blocks.{starts-before-end, rows-extent}
 use Rattle.laws.specs.Laid.{Laid, laid, lines-inside}
 use Rattle.laws.specs.Opens.{refused-by, opened-with, layout-with}
 use Rattle.laws.specs.Asks.{ask-image, ask-no, ask-done}
-use Rattle.asking.specs.Runs.{lowest, leading, leading-few, run-begins, run-counts}
-
--- the bytes of a line
-abbrev lineSize : List ℕ → ℕ
-lineSize img = size (lineFormat (widthOf (layoutOf img)))
-
--- The refusal number, the first row and the row before which they end. Refused, there are no rows.
-pub record Shown (img : List ℕ) (a number first end : ℕ) : Type 0 where
-  pub answers : answer number (end - first) ≡ ask img (countLines a)
-  pub ordered : first ≤ end
-  pub refused-none : (number ≡ 0 → ⊥) → end ≡ first
-  pub begins : number ≡ 0 → first ≡ length (rowsBefore a (tables img .lines))
-  pub counts : number ≡ 0 → end ≡ first + length (rowsOf a (tables img .lines))
-  pub inside : number ≡ 0 → layoutOf img .lines .start + end * lineSize img ≤ length img
+use Rattle.asking.specs.Found.{lowest, leading, lineSize, Shown, ShownBy}
+use Rattle.asking.specs.Runs.{leading-few, run-begins, run-counts}
 
 none-shown : (img : List ℕ) (a k : ℕ) → (k ≡ 0 → ⊥) → answer k 0 ≡ ask img (countLines a) → Shown img a k 0 0
 none-shown img a k h e =
@@ -78,11 +66,6 @@ lines-end img n ok few =
   where
     within : (s e x y l : ℕ) → x ≤ y → s ≤ e → y ≤ e - s → e ≤ l → s + x ≤ l
     within s e x y l p q r u = omega arith
-
--- What the code answers: the rows, by the layout of the image, or the number of the refusal.
-abbrev pub ShownBy : List ℕ → ℕ → ListRows → Type 0
-ShownBy img a (Rows lay first end) = Shown img a 0 first end × (lay ≡ layoutOf img)
-ShownBy img a (list.Refused n) = Shown img a n 0 0 × (n ≡ 0 → ⊥)
 
 -- The rows asked for, return by return. o is what opening the image came to.
 module _ (img : List ℕ) (o : Opened) (is : o ≡ opened img) (a : ℕ) where

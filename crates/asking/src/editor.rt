@@ -4,7 +4,7 @@ ghost use Rattle.model.specs.WhoAndWhat.{editList, has};
 ghost use Rattle.model.specs.Image.{tablesBy};
 ghost use Rattle.model.specs.Permission.{permissionSet};
 ghost use Rattle.model.specs.Questions.{EditorAnswer};
-ghost use Rattle.asking.specs.Editors.{Editor};
+ghost use Rattle.asking.specs.Found.{Editor};
 use acceptance::open;
 use model::Answer;
 use model::Item;

@@ -7,7 +7,7 @@ use crate::list_rows::ListRows;
 use crate::list_rows::shown_rows;
 use model::Answer;
 use model::Item;
-use rows::sizes::line_place;
+use sizes::line_place;
 
 // Lines of a list, the refusal number and the row count.
 pub fn count_lines(image: &[u8], list: Item) -> Answer

@@ -6,6 +6,7 @@ use native.Mathlib.Numerals.{add-one}
 use native.Mathlib.Omega.{arith}
 use lib.ListN.{length, getD, set, take, drop, replicate, length-drop, length-set, length-replicate, getD-replicate, List·getD-append}
 use lib.Seq.{slice-empty, paste, paste-zero, paste-suc, length-paste-head, length-take-le, take-length, take-suc, drop-cons, getD-drop, getD-take, getD-append-add, set-at}
+use Rattle.fields.specs.Edits.{raised}
 
 -- Upwards. Of the n bytes of s that are to stand in p from at on, j stand there in q.
 pub record Copied (p : List ℕ) (at : ℕ) (s : List ℕ) (n : ℕ) (q : List ℕ) (j : ℕ) : Type 0 where
@@ -76,10 +77,7 @@ module _ (p : List ℕ) (at : ℕ) where
       let h : j < m = omega arith in
       copied-one p at (replicate m 0) n q j 0 c more (sym (getD-replicate m j 0 0 h))
 
--- Downwards. The bytes of p from i on, but the last n, stand n places further up.
-abbrev pub raised : List ℕ → ℕ → ℕ → List ℕ
-raised p n i = take (i + n) p ++ drop i (take (length p - n) p)
-
+-- Downwards. Of the bytes of p from low on those from i on stand n places further up in q.
 pub record Raised (p : List ℕ) (n low : ℕ) (q : List ℕ) (i : ℕ) : Type 0 where
   pub made : q ≡ raised p n i
   pub room : i + n ≤ length p

@@ -6,8 +6,7 @@ use native.Mathlib.Nat.{le-of-eq}
 use native.Mathlib.Omega.{arith}
 use lib.ListN.{length, take, drop, replicate, length-drop, length-replicate, drop-of-length-le}
 use lib.Seq.{paste, length-paste, length-paste-head, length-take-le, take-length, take-all, take-at, drop-at, take-take, take-append-le}
-use Rattle.fields.specs.Edits.{putBytes, insertBytes, removeBytes}
-use Rattle.fields.specs.Copies.{raised}
+use Rattle.fields.specs.Edits.{putBytes, insertBytes, removeBytes, raised}
 use Rattle.fields.specs.Fitting.{fit}
 
 module _ (s : List ℕ) (at : ℕ) (row : List ℕ) (places : ℕ) (count : places ≡ length s + 1 - length row) (inside : at < places) where

@@ -3,8 +3,7 @@ ghost use mathlib.Core.Path.{_≡_};
 ghost use Prim.Native.Nat.{_+_, _-_, _≤_};
 ghost use lib.ListN.{length, drop, replicate};
 ghost use lib.Seq.{paste};
-ghost use Rattle.fields.specs.Edits.{putBytes, insertBytes, removeBytes};
-ghost use Rattle.fields.specs.Copies.{raised};
+ghost use Rattle.fields.specs.Edits.{putBytes, insertBytes, removeBytes, raised};
 
 // A row in the place of the bytes from at on.
 pub fn replace_row(bytes: &mut [u8], at: usize, row: &[u8])

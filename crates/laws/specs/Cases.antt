@@ -1,6 +1,6 @@
 -- An answer with two cases: a yes, which holds something, and a no, which holds the number of the first question that is answered no. m is that number, or 0.
 use mathlib.Core.Bool.{Bool, true, false, cond}
-use mathlib.Core.Path.{_≡_, refl, sym, _∙_}
+use mathlib.Core.Path.{_≡_, refl, sym, ap, _∙_}
 use Prim.Native.Nat.{ℕ}
 use borrow.Author.Tests.{eqb-true, eqb-false, ne-eqb}
 use lib.Dec.{eqb}
@@ -21,6 +21,17 @@ module _ {A O : Type 0} (yes : A → O) (no : ℕ → O) (m : ℕ) (x : A) where
 
   pub case-yes : (y : A) → 0 ≡ m → y ≡ x → yes y ≡ cond (eqb m 0) (yes x) (no m)
   case-yes y all e = rw (← all, e)
+
+  -- the number of a case is m, where each case has the number that it should
+  pub case-number : (number : O → ℕ) → number (yes x) ≡ 0 → number (no m) ≡ m
+      → (o : O)
+      → o ≡ cond (eqb m 0) (yes x) (no m)
+      → (o ≡ cond (eqb m 0) (yes x) (no m)) × (number o ≡ m)
+  case-number number of-yes of-no o e = (e, ap number e ∙ go (eqb m 0) refl)
+    where
+      go : (b : Bool) → eqb m 0 ≡ b → number (cond b (yes x) (no m)) ≡ m
+      go true z = of-yes ∙ sym (eqb-true m 0 z)
+      go false z = of-no
 
   -- what a case says; o is what the code was told
   module _ (apart : Apart yes no) (o : O) (is : o ≡ cond (eqb m 0) (yes x) (no m)) where

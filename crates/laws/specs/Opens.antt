@@ -1,24 +1,22 @@
 -- Opening an image: how code comes to each case, and what each case says of the image.
-use mathlib.Core.Bool.{Bool, true, false, cond, false≢true}
+use mathlib.Core.Bool.{false≢true}
 use mathlib.Core.List.{List}
-use mathlib.Core.Path.{_≡_, refl, sym, ap, _∙_}
+use mathlib.Core.Path.{_≡_, refl}
 use Prim.Native.Nat.{ℕ}
-use borrow.Author.Tests.{eqb-true}
-use lib.Dec.{eqb}
 use Rattle.model.specs.declared.Layout.{Layout}
 use Rattle.model.specs.declared.Opened.{Opened}
 use Rattle.model.specs.declared.Opened.the-variants.{With, Refused}
 use Rattle.model.specs.Image.{layoutOf}
 use Rattle.model.specs.Questions.{check, opened, refusalOf}
-use Rattle.laws.specs.Cases.{Apart, case-no, case-yes, no-says, yes-says}
+use Rattle.laws.specs.Cases.{Apart, case-told, case-yes, case-number, no-says, yes-says}
 
 cases-apart : Apart With Refused
 cases-apart = record { differ = λ x n e. false≢true cc; one-yes = λ x y e. cc; one-no = λ m n e. cc }
 
 module _ (img : List ℕ) where
-  pub opened-no : (n : ℕ) → eqb n 0 ≡ false → n ≡ check img → Refused n ≡ opened img
+  pub opened-no : (n : ℕ) → (n ≡ 0 → ⊥) → n ≡ check img → Refused n ≡ opened img
   unfolding opened
-  opened-no n some-no e = case-no With Refused (check img) (layoutOf img) n some-no e
+  opened-no n some-no e = case-told With Refused (check img) (layoutOf img) n some-no e
 
   pub opened-yes : (lay : Layout) → lay ≡ layoutOf img → 0 ≡ check img → With lay ≡ opened img
   unfolding opened
@@ -27,11 +25,7 @@ module _ (img : List ℕ) where
   -- the number of the case is that of the check
   pub opened-also : (o : Opened) → o ≡ opened img → (o ≡ opened img) × (refusalOf o ≡ check img)
   unfolding opened
-  opened-also o e = (e, ap refusalOf e ∙ go (eqb (check img) 0) refl)
-    where
-      go : (b : Bool) → eqb (check img) 0 ≡ b → refusalOf (cond b (With (layoutOf img)) (Refused (check img))) ≡ check img
-      go true z = sym (eqb-true (check img) 0 z)
-      go false z = refl
+  opened-also = case-number With Refused (check img) (layoutOf img) refusalOf refl refl
 
   -- o is what the code was told, and which case it is
   module _ (o : Opened) (is : o ≡ opened img) where

@@ -14,7 +14,7 @@ use model::SoughtLine;
 use model::Subject;
 use model::intersection;
 use model::union;
-use rows::sizes::all_privileges;
+use sizes::all_privileges;
 use tables::subjects::in_tree;
 use tables::subjects::privileges_of;
 
@@ -38,8 +38,8 @@ pub fn lines_part(image: &[u8], layout: Layout, subject: Subject, item: ItemRow)
     if item.list.0 == 0 {
         return 0;
     }
-    let decides = deciding_line(image, layout, subject, item.owner, item.list);
     let everyone = line_of(image, layout, item.list, LineRow::EVERYONE, Subject(0));
+    let decides = deciding_line(image, layout, subject, item.owner, item.list);
     union(line_set(decides), line_set(everyone))
 }
 

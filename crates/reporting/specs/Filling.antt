@@ -12,8 +12,8 @@ use Rattle.model.specs.Image.{Tables, tablesBy, widthOf, subjectFormat, itemFor
 use Rattle.model.specs.Permission.{permissionSet}
 use Rattle.laws.specs.Rows.{rows-count}
 use Rattle.reporting.specs.Report.{space, newline, endedBy, reportLine, heading, refusedWord, refusedLine}
-use Rattle.reporting.specs.Pages.{firstLine, lineCount, lineAt, linesFrom, pageLines, pageSize, page, endingIn}
-use Rattle.reporting.specs.Texts.{Put, put-none, put-more}
+use Rattle.reporting.specs.Pages.{firstLine, lineCount, lineAt, linesFrom, pageLines, pageSize, page, endingIn, Put}
+use Rattle.reporting.specs.Texts.{put-none, put-more}
 
 -- A line from its numbers, the last first.
 pub numbers-put : (p : List ℕ) (end s i v : ℕ) (q₁ : List ℕ) (r₁ : ℕ) (q₂ : List ℕ) (r₂ : ℕ) (q₃ : List ℕ) (r₃ : ℕ)

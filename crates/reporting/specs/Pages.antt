@@ -1,9 +1,11 @@
--- The report as the code writes it: its first line, and its other lines by their number, so many to a page. `Whole` shows that these are the report.
+-- The report as the code writes it: its first line, and its other lines by their number, so many to a page; and a text put into bytes. `Whole` shows that these
+-- are the report.
 use mathlib.Core.Bool.{cond}
 use mathlib.Core.List.{List, [], _++_}
-use Prim.Native.Nat.{ℕ, zero, suc, _+_, _-_, _*_, _/_, _%_, min}
+use mathlib.Core.Path.{_≡_}
+use Prim.Native.Nat.{ℕ, zero, suc, _+_, _-_, _*_, _/_, _%_, _≤_, min}
 use lib.Dec.{eqb}
-use lib.ListN.{length, take}
+use lib.ListN.{length, take, drop}
 use Rattle.model.specs.Image.{Tables}
 use Rattle.model.specs.Permission.{permissionSet}
 use Rattle.reporting.specs.Report.{reportLine, heading, refusedLine}
@@ -43,3 +45,10 @@ endingIn bytes text = take (length bytes - length text) bytes ++ text
 unfoldable pub pagesFrom : Tables → ℕ → ℕ → List ℕ
 pagesFrom t k zero = []
 pagesFrom t k (suc m) = page t k ++ pagesFrom t (k + pageLines) m
+
+-- In q the text stands before byte `end` and starts at byte r; the other bytes are p's.
+pub record Put (p : List ℕ) (end : ℕ) (text q : List ℕ) (r : ℕ) : Type 0 where
+  pub fits : end ≤ length p
+  pub starts : r + length text ≡ end
+  pub made : q ≡ take r p ++ (text ++ drop end p)
+  pub same-length : length q ≡ length p

@@ -6,14 +6,8 @@ use native.Mathlib.Omega.{arith}
 use lib.ListN.{length, getD, set, take, drop, length-append, length-drop, length-set, take-append-drop}
 use lib.Seq.{set-split, take-take, take-append-le, length-take-le, drop-at, drop-cons, drop-length}
 use Rattle.reporting.specs.Report.{digit, digitsOf, decimal}
+use Rattle.reporting.specs.Pages.{Put}
 use Rattle.reporting.specs.Decimals.{no-digits, digits-step, digits-few}
-
--- In q the text stands before byte `end` and starts at byte r; the other bytes are p's.
-pub record Put (p : List ℕ) (end : ℕ) (text q : List ℕ) (r : ℕ) : Type 0 where
-  pub fits : end ≤ length p
-  pub starts : r + length text ≡ end
-  pub made : q ≡ take r p ++ (text ++ drop end p)
-  pub same-length : length q ≡ length p
 
 pub put-none : (p : List ℕ) (end : ℕ) → end ≤ length p → Put p end [] p end
 put-none p end h = record { fits = h; starts = omega arith; made = sym (take-append-drop end p); same-length = refl }

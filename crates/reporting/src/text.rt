@@ -4,7 +4,7 @@ ghost use Prim.Native.Nat.{_+_, _%_, _≤_};
 ghost use mathlib.Core.List.{[], _∷_};
 ghost use lib.ListN.{length};
 ghost use Rattle.reporting.specs.Report.{digit, decimal, endedBy};
-ghost use Rattle.reporting.specs.Texts.{Put};
+ghost use Rattle.reporting.specs.Pages.{Put};
 
 pub fn put_bytes(page: &mut [u8], end: usize, text: &[u8]) -> usize
     requires { ⌜ (length (now text) ≤ end) × (end ≤ length (now page)) ⌝ }

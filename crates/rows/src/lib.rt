@@ -2,5 +2,4 @@
 // the end reads as 0 and is not written.
 pub mod header;
 pub mod read;
-pub mod sizes;
 pub mod write;

@@ -5,13 +5,6 @@ ghost use Prim.Native.Nat.{_*_, _/_, _≤_};
 ghost use lib.ListN.{length, getD, drop};
 ghost use Rattle.model.specs.Image.{size, firstRow, rowsIn, itemIn, widthOf, subjectFormat, noSubject, grantFormat, noGrant, lineFormat, noLine, itemFormat};
 ghost use Rattle.rows.specs.Reading.{rowOf, rowSlice, rowsSlice};
-use crate::sizes::grant_size;
-use crate::sizes::item_size;
-use crate::sizes::line_size;
-use crate::sizes::privileges_at;
-use crate::sizes::privileges_size;
-use crate::sizes::subject_place;
-use crate::sizes::subject_size;
 use fields::edits::places;
 use fields::numbers::field;
 use model::GrantRow;
@@ -23,6 +16,13 @@ use model::Role;
 use model::Subject;
 use model::SubjectRow;
 use model::Table;
+use sizes::grant_size;
+use sizes::item_size;
+use sizes::line_size;
+use sizes::privileges_at;
+use sizes::privileges_size;
+use sizes::subject_place;
+use sizes::subject_size;
 
 pub fn subject_at(bytes: &[u8], layout: Layout, n: u32) -> SubjectRow
     ensures { λ r. ⌜ r ≡ getD (rowsIn (subjectFormat (widthOf layout)) (layout .subjects) (now (bytes .entry))) n noSubject ⌝ }

@@ -2,12 +2,6 @@
 ghost use mathlib.Core.Path.{_≡_};
 ghost use Rattle.model.specs.Image.{rowInBytes, widthOf, subjectFormat, grantFormat, lineFormat, itemFormat};
 ghost use Rattle.fields.specs.Edits.{putBytes};
-use crate::sizes::grant_size;
-use crate::sizes::item_size;
-use crate::sizes::line_size;
-use crate::sizes::privileges_size;
-use crate::sizes::put_privileges;
-use crate::sizes::subject_size;
 use fields::edits::places;
 use fields::numbers::put_field;
 use model::GrantRow;
@@ -15,6 +9,12 @@ use model::ItemRow;
 use model::Layout;
 use model::LineRow;
 use model::SubjectRow;
+use sizes::grant_size;
+use sizes::item_size;
+use sizes::line_size;
+use sizes::privileges_size;
+use sizes::put_privileges;
+use sizes::subject_size;
 
 pub fn put_subject(bytes: &mut [u8], layout: Layout, at: usize, row: SubjectRow)
     ensures { λ _. ⌜ now (bytes .exit) ≡ putBytes (now (bytes .entry)) at (rowInBytes (subjectFormat (widthOf layout)) row) ⌝ }

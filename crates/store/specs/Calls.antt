@@ -1,10 +1,9 @@
 -- A call that changes one table: what its questions come to, and that the row stored, taken out or written anew leaves the image that the call's definition
 -- gives. One law for each kind of change, over the format and the key of the table.
-use mathlib.Core.Bool.{Bool, true, false, _||_, cond, false≢true}
+use mathlib.Core.Bool.{false, _||_, false≢true}
 use mathlib.Core.List.{List, [], _∷_, _++_}
 use mathlib.Core.Path.{_≡_, refl, sym, ap, _∙_}
 use Prim.Native.Nat.{ℕ, _≤_}
-use borrow.Author.Tests.{eqb-true}
 use lib.Dec.{T, eqb, ltb}
 use lib.ListN.{length, getD}
 use mir.Syntax.{w8}
@@ -18,7 +17,7 @@ use Rattle.model.specs.Image.{Format, layoutOf, tablesBy, tables, rowsIn, itemU
 use Rattle.model.specs.Calls.{Change, withItems, setItem, after}
 use Rattle.model.specs.Questions.{questions, answer, Accepted, act}
 use Rattle.laws.specs.WellFormed.{Passed}
-use Rattle.laws.specs.Cases.{Apart, case-no, case-told, case-yes, no-says, yes-says}
+use Rattle.laws.specs.Cases.{Apart, case-no, case-told, case-yes, case-number, no-says, yes-says}
 use Rattle.laws.specs.Acts.{was-passed, was-accepted, leaves, slice-bytes}
 use Rattle.search.specs.declared.Spot.{Spot}
 use Rattle.search.specs.Spots.{spotIn}
@@ -48,11 +47,7 @@ module _ (m : ℕ) (spot : Spot) where
 
   -- the number of the case is the first no's
   pub store-also : (o : Storing) → o ≡ storing m spot → (o ≡ storing m spot) × (storingNumber o ≡ m)
-  store-also o e = (e, ap storingNumber e ∙ go (eqb m 0) refl)
-    where
-      go : (b : Bool) → eqb m 0 ≡ b → storingNumber (cond b (store.At spot) (store.Refused m)) ≡ m
-      go true z = sym (eqb-true m 0 z)
-      go false z = refl
+  store-also = case-number store.At store.Refused m spot storingNumber refl refl
 
   module _ (o : Storing) (is : o ≡ storing m spot) where
     pub store-number : (n : ℕ) → o ≡ store.Refused n → n ≡ m
@@ -79,11 +74,7 @@ module _ (m row : ℕ) where
   remove-at = case-yes remove.Row remove.Refused m row
 
   pub remove-also : (o : Removing) → o ≡ removing m row → (o ≡ removing m row) × (removingNumber o ≡ m)
-  remove-also o e = (e, ap removingNumber e ∙ go (eqb m 0) refl)
-    where
-      go : (b : Bool) → eqb m 0 ≡ b → removingNumber (cond b (remove.Row row) (remove.Refused m)) ≡ m
-      go true z = sym (eqb-true m 0 z)
-      go false z = refl
+  remove-also = case-number remove.Row remove.Refused m row removingNumber refl refl
 
   module _ (o : Removing) (is : o ≡ removing m row) where
     pub remove-number : (n : ℕ) → o ≡ remove.Refused n → n ≡ m

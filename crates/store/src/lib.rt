@@ -11,15 +11,15 @@ use model::ItemRow;
 use model::Layout;
 use model::LineRow;
 use model::SubjectRow;
-use rows::sizes::grant_size;
-use rows::sizes::item_size;
-use rows::sizes::line_size;
-use rows::sizes::subject_size;
 use rows::write::put_grant;
 use rows::write::put_item;
 use rows::write::put_line;
 use rows::write::put_subject;
 use search::Spot;
+use sizes::grant_size;
+use sizes::item_size;
+use sizes::line_size;
+use sizes::subject_size;
 
 mod moves;
 

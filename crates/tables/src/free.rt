@@ -5,10 +5,10 @@ ghost use lib.Dec.{ltb};
 ghost use Rattle.model.specs.Image.{roomBy, roomsBy};
 use model::Layout;
 use model::Table;
-use rows::sizes::grant_size;
-use rows::sizes::item_size;
-use rows::sizes::line_size;
-use rows::sizes::subject_size;
+use sizes::grant_size;
+use sizes::item_size;
+use sizes::line_size;
+use sizes::subject_size;
 
 pub fn subject_free(layout: Layout) -> bool
     ensures { λ r. ⌜ r ≡ ltb (layout .subjects .used) (roomsBy layout .subjects) ⌝ }

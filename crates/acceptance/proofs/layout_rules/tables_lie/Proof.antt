@@ -1,8 +1,7 @@
 -- `acceptance::layout_rules::tables_lie` meets its contract: one rule after the other, in the order of the list.
 use borrow.Author.Needs.{needs}
 use Rattle.model.specs.Image.{tableRules}
-use Rattle.laws.specs.Tests.{and-last}
-use Rattle.acceptance.specs.Layouts.{subjects-wide, grants-wide, lines-wide, items-wide, lies-no, lies-yes}
+use Rattle.acceptance.specs.Layouts.{subjects-wide, grants-wide, lines-wide, items-wide, lies-no, lies-yes, lies-last}
 use Rattle.acceptance.proofs.layout_rules.tables_lie.Statement.{statement}
 use Rattle.acceptance.proofs.layout_rules.tables_lie.Tie as tie
 
@@ -44,11 +43,7 @@ lies-requires-4 c κs = search items-wide
 
 returns-4 : tie.Need-returns-4
 unfolding tableRules
-returns-4 c = search (lies-yes, lies-no)
-
-returns-5 : tie.Need-returns-5
-unfolding tableRules
-returns-5 c = search (lies-yes, and-last) depth 6
+returns-4 c = search (lies-yes, lies-last)
 
 pub tables-lie-spec : {M : Type 1} → statement M
 tables-lie-spec =
@@ -65,5 +60,4 @@ tables-lie-spec =
     returns-3
     item-size-requires
     lies-requires-4
-    returns-4
-    returns-5)
+    returns-4)

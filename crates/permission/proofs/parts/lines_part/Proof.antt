@@ -1,4 +1,4 @@
--- `permission::parts::lines_part` meets its contract: the custodian, no list, or the deciding line and the line for everyone.
+-- `permission::parts::lines_part` meets its contract: the custodian, no list, or the line for everyone and the deciding line.
 use borrow.Author.Needs.{needs}
 use Rattle.permission.specs.Parts.{part-custodian, part-unlisted, part-other}
 use Rattle.permission.proofs.parts.lines_part.Statement.{statement}
@@ -13,11 +13,11 @@ returns c = search part-custodian
 returns-2 : tie.Need-returns-2
 returns-2 c = search part-unlisted
 
-deciding-line-requires : tie.Need-deciding-line-requires
-deciding-line-requires c κs = search needs
-
 line-of-requires : tie.Need-line-of-requires
 line-of-requires c κs = search needs
+
+deciding-line-requires : tie.Need-deciding-line-requires
+deciding-line-requires c κs = search needs
 
 line-set-requires : tie.Need-line-set-requires
 line-set-requires c κs = search needs
@@ -38,8 +38,8 @@ lines-part-spec =
     all-privileges-requires
     returns
     returns-2
-    deciding-line-requires
     line-of-requires
+    deciding-line-requires
     line-set-requires
     line-set-requires-2
     union-requires

@@ -3,7 +3,8 @@ use Prim.Native.Nat.{_≤_}
 use native.Mathlib.Omega.{arith}
 use borrow.Author.Needs.{needs}
 use lib.ListN.{length, drop}
-use Rattle.reporting.specs.Texts.{Put, tail-none, tail-room, tail-one, tail-all}
+use Rattle.reporting.specs.Pages.{Put}
+use Rattle.reporting.specs.Texts.{tail-none, tail-room, tail-one, tail-all}
 use Rattle.reporting.proofs.text.put_bytes.Statement.{statement}
 use Rattle.reporting.proofs.text.put_bytes.Tie as tie
 

@@ -1,6 +1,6 @@
 -- `search::grants::grant_rank` meets its contract: the rows passed all have a lower key.
 use mathlib.Core.List.{[], _∷_}
-use Prim.Native.Nat.{_-_}
+use Prim.Native.Nat.{_-_, _<_}
 use native.Mathlib.Omega.{arith}
 use borrow.Author.Needs.{needs}
 use Rattle.model.specs.Image.{tablesBy, widthOf, grantFormat, grantKey, noGrant}
@@ -27,8 +27,12 @@ returns : tie.Need-returns Inv-loop μ-loop
 unfolding tablesBy
 returns c = search counted-here
 
+-- That the number of rows in use fits its field is named: it is one of many facts of a layout, and `omega` looks at no more than a bounded number.
 add-n : tie.Need-add-n Inv-loop μ-loop
-add-n c = omega arith
+add-n c =
+    let entry = c .before .before .before .before .before .before .before in
+    let used-fits : entry .args .layout .grants .used < 4294967296 = entry .good .1 .0 .1 .1 .1 .0 .1 .1 .0 .1 in
+    record { fits = omega (arith, used-fits) }
 
 loop-less : tie.Need-loop-less Inv-loop μ-loop
 loop-less c = omega arith

@@ -1,0 +1,49 @@
+// The questions of an image, by the layout that its header gives.
+ghost use mathlib.Core.Path.{_≡_};
+ghost use Rattle.model.specs.Questions.{firstNo, questionsBy};
+use crate::layout_rules::has_subject;
+use crate::layout_rules::header_holds;
+use crate::layout_rules::length_fits;
+use crate::layout_rules::tables_lie;
+use crate::row_rules::grants_hold;
+use crate::row_rules::items_hold;
+use crate::row_rules::lines_hold;
+use crate::row_rules::subjects_hold;
+use crate::unused_rows::unused_is_zero;
+use model::Layout;
+use model::refusal;
+
+// The number of the first question that is answered no, or 0. Question 2 is asked in its parts. It bounds the work of those after it by the image's length,
+// whatever the header claims.
+pub fn first_no(image: &[u8], layout: Layout) -> u32
+    ensures { λ r. ⌜ r ≡ firstNo (questionsBy layout (now (image .entry))) ⌝ }
+{
+    if !length_fits(image) {
+        return refusal::LENGTH;
+    }
+    if !header_holds(image, layout) {
+        return refusal::LAYOUT;
+    }
+    if !tables_lie(layout) {
+        return refusal::LAYOUT;
+    }
+    if !has_subject(layout) {
+        return refusal::LAYOUT;
+    }
+    if !subjects_hold(image, layout) {
+        return refusal::SUBJECT_ROWS;
+    }
+    if !items_hold(image, layout) {
+        return refusal::ITEM_ROWS;
+    }
+    if !lines_hold(image, layout) {
+        return refusal::LINE_ROWS;
+    }
+    if !grants_hold(image, layout) {
+        return refusal::GRANT_ROWS;
+    }
+    if !unused_is_zero(image, layout) {
+        return refusal::UNUSED_ROWS;
+    }
+    0
+}

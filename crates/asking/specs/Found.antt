@@ -1,0 +1,46 @@
+-- What the contracts of `asking` cite beside the definitions of `model`: the rows of a list among the lines, and what the search for an editor found.
+use mathlib.Core.Bool.{true, false, cond}
+use mathlib.Core.List.{List, [], _∷_}
+use mathlib.Core.Path.{_≡_}
+use Prim.Native.Nat.{ℕ, suc, _+_, _-_, _*_, _≤_}
+use lib.Dec.{eqb}
+use lib.ListN.{length}
+use Rattle.model.specs.declared.LineRow.{LineRow}
+use Rattle.model.specs.Image.{Tables, layoutOf, tables, size, lineFormat, widthOf}
+use Rattle.model.specs.Calls.{rowsOf, rowsBefore, isEditor}
+use Rattle.model.specs.Calls.Ask.{countLines}
+use Rattle.model.specs.Questions.{answer, ask}
+use Rattle.asking.specs.declared.list_rows.ListRows.{ListRows}
+use Rattle.asking.specs.declared.list_rows.ListRows.the-variants.{Rows, Refused}
+
+-- the lowest key of list a
+abbrev pub lowest : ℕ → List ℕ
+lowest a = a ∷ 0 ∷ 0 ∷ []
+
+-- how many rows at the head name list a
+unfoldable pub leading : ℕ → List LineRow → ℕ
+leading a [] = 0
+leading a (l ∷ ls) = cond (eqb (l .list .0) a) (suc (leading a ls)) 0
+
+-- the bytes of a line
+abbrev pub lineSize : List ℕ → ℕ
+lineSize img = size (lineFormat (widthOf (layoutOf img)))
+
+-- The refusal number, the first row and the row before which they end. Refused, there are no rows.
+pub record Shown (img : List ℕ) (a number first end : ℕ) : Type 0 where
+  pub answers : answer number (end - first) ≡ ask img (countLines a)
+  pub ordered : first ≤ end
+  pub refused-none : (number ≡ 0 → ⊥) → end ≡ first
+  pub begins : number ≡ 0 → first ≡ length (rowsBefore a (tables img .lines))
+  pub counts : number ≡ 0 → end ≡ first + length (rowsOf a (tables img .lines))
+  pub inside : number ≡ 0 → layoutOf img .lines .start + end * lineSize img ≤ length img
+
+-- What the code answers: the rows, by the layout of the image, or the number of the refusal.
+abbrev pub ShownBy : List ℕ → ℕ → ListRows → Type 0
+ShownBy img a (Rows lay first end) = Shown img a 0 first end × (lay ≡ layoutOf img)
+ShownBy img a (Refused n) = Shown img a n 0 0 × (n ≡ 0 → ⊥)
+
+-- r is an editor of list a, or 0 where there is none
+pub record Editor (t : Tables) (a r : ℕ) : Type 0 where
+  pub nobody : r ≡ 0 → (s : ℕ) → isEditor t s a ≡ false
+  pub somebody : (r ≡ 0 → ⊥) → isEditor t r a ≡ true
