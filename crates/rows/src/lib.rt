@@ -1,4 +1,4 @@
-// Where the tables and rows of an image lie, and rows read from its bytes and written into them. Every function answers every input: what lies past
+// The layout of an image, and rows read from its bytes and written into them. Every function answers every input: what lies past
 // the end reads as 0 and is not written.
 pub mod header;
 pub mod read;
