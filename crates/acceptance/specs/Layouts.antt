@@ -4,7 +4,7 @@ use mathlib.Core.Path.{_≡_, ap, _∙_}
 use Prim.Native.Nat.{ℕ, _<_}
 use Rattle.model.specs.declared.Table.{Table}
 use Rattle.model.specs.declared.Layout.{Layout}
-use Rattle.model.specs.Image.{Format, size, liesBy, subjectFormat, grantFormat, lineFormat, itemFormat, widthOf}
+use Rattle.model.specs.Image.{Format, size, laidOutBy, subjectFormat, grantFormat, lineFormat, itemFormat, widthOf}
 use Rattle.laws.specs.Tests.{and-no, and-yes, and-last, said-no, said-yes}
 use Rattle.laws.specs.Rows.{Lawful, subject-lawful, grant-lawful, line-lawful, item-lawful}
 
@@ -27,15 +27,15 @@ pub items-wide : (n : ℕ) → n ≡ size itemFormat → 0 < n
 items-wide n = sized-wide itemFormat n item-lawful
 
 -- One table among the rules: b is what was told of it, n the size with which it was asked, m the size by the definition. The rest of the list follows.
-module _ (t : Table) (n m : ℕ) (b rest : Bool) (told : b ≡ liesBy n t) (sized : n ≡ m) where
-  lies-sized : b ≡ liesBy m t
-  lies-sized = told ∙ ap (λ (k : ℕ). liesBy k t) sized
+module _ (t : Table) (n m : ℕ) (b rest : Bool) (said : b ≡ laidOutBy n t) (sized : n ≡ m) where
+  laid-out-sized : b ≡ laidOutBy m t
+  laid-out-sized = said ∙ ap (λ (k : ℕ). laidOutBy k t) sized
 
-  pub lies-no : not b ≡ true → false ≡ (liesBy m t && rest)
-  lies-no h = and-no (liesBy m t) rest (said-no (liesBy m t) b lies-sized h)
+  pub laid-out-no : not b ≡ true → false ≡ (laidOutBy m t && rest)
+  laid-out-no h = and-no (laidOutBy m t) rest (said-no (laidOutBy m t) b laid-out-sized h)
 
-  pub lies-yes : (r : Bool) → not b ≡ false → r ≡ rest → r ≡ (liesBy m t && rest)
-  lies-yes r h e = and-yes (liesBy m t) rest r (said-yes (liesBy m t) b lies-sized h) e
+  pub laid-out-yes : (r : Bool) → not b ≡ false → r ≡ rest → r ≡ (laidOutBy m t && rest)
+  laid-out-yes r h e = and-yes (laidOutBy m t) rest r (said-yes (laidOutBy m t) b laid-out-sized h) e
 
-  pub lies-last : b ≡ (liesBy m t && true)
-  lies-last = and-last (liesBy m t) b lies-sized
+  pub laid-out-last : b ≡ (laidOutBy m t && true)
+  laid-out-last = and-last (laidOutBy m t) b laid-out-sized

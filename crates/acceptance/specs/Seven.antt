@@ -38,9 +38,9 @@ module _ (lay : Layout) (img : List ℕ) where
   joined = simp (and-assoc, and-true)
 
   -- the second in three
-  pub by-parts : (n : ℕ) → n ≡ firstNo (1 asks fits ∷ 2 asks header ∷ 2 asks tables ∷ 2 asks subject ∷ others) → n ≡ firstNo (questionsBy lay img)
+  pub by-tests : (n : ℕ) → n ≡ firstNo (1 asks fits ∷ 2 asks header ∷ 2 asks tables ∷ 2 asks subject ∷ others) → n ≡ firstNo (questionsBy lay img)
   unfolding firstNo
-  by-parts n asked =
+  by-tests n asked =
       asked
       ∙ ap (λ (m : ℕ). cond fits m 1)
       (in-three 2 header tables subject others ∙ ap (λ (b : Bool). firstNo (2 asks b ∷ others)) joined)

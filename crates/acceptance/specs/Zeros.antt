@@ -52,22 +52,22 @@ module _ (s : List ℕ) (from to end : ℕ) where
       let past : length s ≤ from = omega arith in
       rw (drop-of-length-le s {i = from} past, take-nil {A = ℕ} (to - from))
 
-  pub part-before : (b : Bool) → end ≡ to → b ≡ zeros (take (end - from) (drop from s)) → b ≡ zeros (take (to - from) (drop from s))
-  part-before b e t = rw (← e) t
+  pub slice-before : (b : Bool) → end ≡ to → b ≡ zeros (take (end - from) (drop from s)) → b ≡ zeros (take (to - from) (drop from s))
+  slice-before b e t = rw (← e) t
 
-  pub part-behind : (b : Bool)
+  pub slice-behind : (b : Bool)
       → length s < to
       → end ≡ length s
       → b ≡ zeros (take (end - from) (drop from s))
       → b ≡ zeros (take (to - from) (drop from s))
-  part-behind b h e t =
+  slice-behind b h e t =
       let all : length (drop from s) ≤ end - from = rw (length-drop from s) (omega (arith, e)) in
       let more : length (drop from s) ≤ to - from = rw (length-drop from s) (omega (arith, h)) in
       t ∙ rw (take-all (end - from) (drop from s) all, take-all (to - from) (drop from s) more)
 
 -- from is the place as a callee told it.
-pub from-place : (s : List ℕ) (from to place : ℕ) (b : Bool)
-    → from ≡ place
+pub from-offset : (s : List ℕ) (from to offset : ℕ) (b : Bool)
+    → from ≡ offset
     → b ≡ zeros (take (to - from) (drop from s))
-    → b ≡ zeros (take (to - place) (drop place s))
-from-place s from to place b e t = rw (← e) t
+    → b ≡ zeros (take (to - offset) (drop offset s))
+from-offset s from to offset b e t = rw (← e) t

@@ -5,7 +5,7 @@ ghost use Prim.Native.Nat.{_<_};
 ghost use lib.Dec.{leb};
 ghost use lib.ListN.{length, take};
 ghost use Rattle.model.specs.Lists.{allOf};
-ghost use Rattle.model.specs.Image.{shortestImage, longestImage, headerRules, tableRules, liesBy};
+ghost use Rattle.model.specs.Image.{shortestImage, longestImage, headerRules, tableRules, laidOutBy};
 use model::Layout;
 use model::Table;
 use sizes::grant_size;
@@ -35,19 +35,19 @@ pub fn header_holds(image: &[u8], layout: Layout) -> bool
 }
 
 // Every table lies right: the rules of the tables but for the last.
-pub fn tables_lie(layout: Layout) -> bool
+pub fn tables_laid_out(layout: Layout) -> bool
     ensures { λ r. ⌜ r ≡ allOf (take 4 (tableRules layout)) ⌝ }
 {
-    if !lies(layout.subjects, subject_size(layout)) {
+    if !laid_out(layout.subjects, subject_size(layout)) {
         return false;
     }
-    if !lies(layout.grants, grant_size(layout)) {
+    if !laid_out(layout.grants, grant_size(layout)) {
         return false;
     }
-    if !lies(layout.lines, line_size(layout)) {
+    if !laid_out(layout.lines, line_size(layout)) {
         return false;
     }
-    lies(layout.items, item_size(layout))
+    laid_out(layout.items, item_size(layout))
 }
 
 // The last: a subject is in use.
@@ -60,9 +60,9 @@ pub fn has_subject(layout: Layout) -> bool
 
 // A table does not end before it starts, is whole rows, and has room for those in use. The rows in use are compared with the capacity: a
 // product with a count out of the header could be too large.
-fn lies(table: Table, size: usize) -> bool
+fn laid_out(table: Table, size: usize) -> bool
     requires { ⌜ 0 < size ⌝ }
-    ensures { λ r. ⌜ r ≡ liesBy size table ⌝ }
+    ensures { λ r. ⌜ r ≡ laidOutBy size table ⌝ }
 {
     if table.end < table.start {
         return false;

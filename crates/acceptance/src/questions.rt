@@ -4,7 +4,7 @@ ghost use Rattle.model.specs.Questions.{firstNo, questionsBy};
 use crate::layout_rules::has_subject;
 use crate::layout_rules::header_holds;
 use crate::layout_rules::length_fits;
-use crate::layout_rules::tables_lie;
+use crate::layout_rules::tables_laid_out;
 use crate::row_rules::grants_hold;
 use crate::row_rules::items_hold;
 use crate::row_rules::lines_hold;
@@ -24,7 +24,7 @@ pub fn first_no(image: &[u8], layout: Layout) -> u32
     if !header_holds(image, layout) {
         return refusal::LAYOUT;
     }
-    if !tables_lie(layout) {
+    if !tables_laid_out(layout) {
         return refusal::LAYOUT;
     }
     if !has_subject(layout) {

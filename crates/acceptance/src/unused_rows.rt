@@ -5,10 +5,10 @@ ghost use lib.ListN.{take, drop};
 ghost use Rattle.model.specs.Lists.{allOf, zeros};
 ghost use Rattle.model.specs.Image.{unusedRules};
 use model::Layout;
-use sizes::grant_place;
-use sizes::item_place;
-use sizes::line_place;
-use sizes::subject_place;
+use sizes::grant_offset;
+use sizes::item_offset;
+use sizes::line_offset;
+use sizes::subject_offset;
 
 pub fn unused_is_zero(image: &[u8], layout: Layout) -> bool
     ensures { λ r. ⌜ r ≡ allOf (unusedRules layout (now (image .entry))) ⌝ }
@@ -19,18 +19,22 @@ pub fn unused_is_zero(image: &[u8], layout: Layout) -> bool
     let items = layout.items;
     if !zero_between(
         image,
-        subject_place(layout, subjects.used),
+        subject_offset(layout, subjects.used),
         subjects.end as usize,
     ) {
         return false;
     }
-    if !zero_between(image, grant_place(layout, grants.used), grants.end as usize) {
+    if !zero_between(
+        image,
+        grant_offset(layout, grants.used),
+        grants.end as usize,
+    ) {
         return false;
     }
-    if !zero_between(image, line_place(layout, lines.used), lines.end as usize) {
+    if !zero_between(image, line_offset(layout, lines.used), lines.end as usize) {
         return false;
     }
-    zero_between(image, item_place(layout, items.used), items.end as usize)
+    zero_between(image, item_offset(layout, items.used), items.end as usize)
 }
 
 // Bytes that run past the end of the image are none.

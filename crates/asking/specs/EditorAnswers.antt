@@ -58,7 +58,7 @@ module _ (img : List ℕ) (o : Opened) (is : o ≡ opened img) (a : ℕ) (r : An
   pub editor-image : (n : ℕ) → o ≡ Refused n → r ≡ answer n 0 → EditorAnswer img a r
   editor-image n case e = refused n (refused-by img o is n case .1) (number-image img o is (λ t. editorQuestions t a) (λ t. 0) n case) e
 
-  module _ (lay : Layout) (case : o ≡ With lay) (b : Bool) (told : b ≡ isList (tablesBy lay img .items) a) where
+  module _ (lay : Layout) (case : o ≡ With lay) (b : Bool) (said : b ≡ isList (tablesBy lay img .items) a) where
     there : lay ≡ layoutOf img
     there = layout-with img o is lay case
 
@@ -67,21 +67,21 @@ module _ (img : List ℕ) (o : Opened) (is : o ≡ opened img) (a : ℕ) (r : An
 
     pub editor-no-list : not b ≡ true → r ≡ answer 13 0 → EditorAnswer img a r
     unfolding editorQuestions
-    editor-no-list h e = refused 13 (λ z. omega arith) (own 13 (asked-no 13 _ _ b told h)) e
+    editor-no-list h e = refused 13 (λ z. omega arith) (own 13 (asked-no 13 _ _ b said h)) e
 
     module _ (listed : not b ≡ false) (s : ℕ) (editor : Editor (tablesBy lay img) a s) where
       pub editor-none : s ≡ 0 → r ≡ answer 20 0 → EditorAnswer img a r
       unfolding editorQuestions
       editor-none z e =
           refused 20 (λ z. omega arith)
-          (own 20 (asked-yes 13 _ _ b told 20 listed (asked-no 20 _ [] false (sym (none-there (tablesBy lay img) a (editor .nobody z))) refl))) e
+          (own 20 (asked-yes 13 _ _ b said 20 listed (asked-no 20 _ [] false (sym (none-there (tablesBy lay img) a (editor .nobody z))) refl))) e
 
       pub editor-found : (s ≡ 0 → ⊥) → r ≡ answer 0 s → EditorAnswer img a r
       unfolding editorQuestions
       editor-found d e =
           let is : isEditor (tablesBy lay img) s a ≡ true = editor .somebody d in
           let number : 0 ≡ firstNo (imageQuestions img ++ editorQuestions (tables img) a) =
-          own 0 (asked-yes 13 _ _ b told 0 listed (asked-yes 20 _ [] true (sym (one-there (tablesBy lay img) a s is)) 0 refl asked-all)) in
+          own 0 (asked-yes 13 _ _ b said 0 listed (asked-yes 20 _ [] true (sym (one-there (tablesBy lay img) a s is)) 0 refl asked-all)) in
           record {
             number-decided = ap (λ (x : Answer). x .number) e ∙ number;
             refused = λ h. absurd (h (ap (λ (x : Answer). x .number) e));

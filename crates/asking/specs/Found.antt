@@ -8,7 +8,7 @@ use lib.ListN.{length}
 use Rattle.model.specs.declared.LineRow.{LineRow}
 use Rattle.model.specs.Image.{Tables, layoutOf, tables, size, lineFormat, widthOf}
 use Rattle.model.specs.Calls.{rowsOf, rowsBefore, isEditor}
-use Rattle.model.specs.Calls.Ask.{countLines}
+use Rattle.model.specs.Calls.Ask.{listCount}
 use Rattle.model.specs.Questions.{answer, ask}
 use Rattle.asking.specs.declared.list_rows.ListRows.{ListRows}
 use Rattle.asking.specs.declared.list_rows.ListRows.the-variants.{Rows, Refused}
@@ -28,7 +28,7 @@ lineSize img = size (lineFormat (widthOf (layoutOf img)))
 
 -- The refusal number, the first row and the row before which they end. Refused, there are no rows.
 pub record Shown (img : List ℕ) (a number first end : ℕ) : Type 0 where
-  pub answers : answer number (end - first) ≡ ask img (countLines a)
+  pub answers : answer number (end - first) ≡ ask img (listCount a)
   pub ordered : first ≤ end
   pub refused-none : (number ≡ 0 → ⊥) → end ≡ first
   pub begins : number ≡ 0 → first ≡ length (rowsBefore a (tables img .lines))

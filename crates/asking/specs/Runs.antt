@@ -12,11 +12,11 @@ use lib.ListN.{length, getD, drop, drop-of-length-le}
 use Rattle.model.specs.declared.Table.{Table}
 use Rattle.model.specs.declared.LineRow.{LineRow}
 use Rattle.model.specs.Lists.{select}
-use Rattle.model.specs.Sorted.{before, place, ascending}
+use Rattle.model.specs.Sorted.{before, insertionIndex, ascending}
 use Rattle.model.specs.Image.{Format, rowsIn, noLine, lineKey}
 use Rattle.model.specs.Calls.{rowsOf, rowsBefore}
 use Rattle.laws.specs.Tests.{two, or-cases, and-l, and-r, eq-or-ne}
-use Rattle.laws.specs.Sorted.{ascending-tail, place-counts}
+use Rattle.laws.specs.Sorted.{ascending-tail, index-counts}
 use Rattle.laws.specs.Rows.{rows-count, rows-next}
 use Rattle.asking.specs.Found.{lowest, leading}
 
@@ -71,9 +71,9 @@ select-same : {A : Type 0} (p q : A → Bool) → ((x : A) → p x ≡ q x) → 
 select-same p q e [] = refl
 select-same p q e (x ∷ xs) = rw (e x, select-same p q e xs)
 
-pub run-begins : (a : ℕ) (rows : List LineRow) → T (ascending lineKey rows) → place lineKey (lowest a) rows ≡ length (rowsBefore a rows)
+pub run-begins : (a : ℕ) (rows : List LineRow) → T (ascending lineKey rows) → insertionIndex lineKey (lowest a) rows ≡ length (rowsBefore a rows)
 run-begins a rows t =
-    place-counts lineKey (lowest a) rows t
+    index-counts lineKey (lowest a) rows t
     ∙ ap length (select-same (λ (l : LineRow). before (lineKey l) (lowest a)) (λ (l : LineRow). ltb (l .list .0) a) (λ (l : LineRow). lower-list l a) rows)
 
 -- a lower key has a list that is not higher
@@ -109,8 +109,8 @@ from-list a x (y ∷ ys) t h =
           stops ∙ sym (ap length past)
     ]
 
-pub run-counts : (a : ℕ) (rows : List LineRow) → T (ascending lineKey rows) → leading a (drop (place lineKey (lowest a) rows) rows) ≡ length (rowsOf a rows)
-unfolding leading place
+pub run-counts : (a : ℕ) (rows : List LineRow) → T (ascending lineKey rows) → leading a (drop (insertionIndex lineKey (lowest a) rows) rows) ≡ length (rowsOf a rows)
+unfolding leading insertionIndex
 run-counts a [] t = refl
 run-counts a (x ∷ xs) t =
     elim (two (ltb (x .list .0) a)) [

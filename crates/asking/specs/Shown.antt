@@ -16,15 +16,15 @@ use Rattle.asking.specs.declared.list_rows.ListRows.{ListRows}
 use Rattle.asking.specs.declared.list_rows.ListRows.the-variants.{Rows}
 use Rattle.asking.specs.declared.list_rows.ListRows.the-variants as list
 use Rattle.model.specs.Lists.{every}
-use Rattle.model.specs.Sorted.{place, ascending}
+use Rattle.model.specs.Sorted.{insertionIndex, ascending}
 use Rattle.model.specs.Image.{layoutOf, tablesBy, tables, size, lineFormat, widthOf, isList, lineKey, lineRules, linesHold}
-use Rattle.model.specs.Calls.{rowsOf, told}
-use Rattle.model.specs.Calls.Ask.{countLines}
-use Rattle.model.specs.Questions.{answer, check, opened, ask, askQuestions, imageQuestions, shows, partStart, partLength, partBytes}
+use Rattle.model.specs.Calls.{rowsOf, askResult}
+use Rattle.model.specs.Calls.Ask.{listCount}
+use Rattle.model.specs.Questions.{answer, check, opened, ask, askQuestions, imageQuestions, shows, listStart, listExtent, listSlice}
 use Rattle.laws.specs.Tests.{and-r}
 use Rattle.laws.specs.WellFormed.{Passed}
 use Rattle.laws.specs.Answers.{asked-no, asked-yes, asked-all, image-passed}
-use Rattle.laws.specs.Sorted.{place-le}
+use Rattle.laws.specs.Sorted.{index-le}
 use Rattle.laws.specs.Rows.{rows-count, line-lawful}
 use Rattle.laws.specs.Blocks.{starts-before-end, rows-extent}
 use Rattle.laws.specs.Laid.{Laid, laid, lines-inside}
@@ -33,7 +33,7 @@ use Rattle.laws.specs.Asks.{ask-image, ask-no, ask-done}
 use Rattle.asking.specs.Found.{lowest, leading, lineSize, Shown, ShownBy}
 use Rattle.asking.specs.Runs.{leading-few, run-begins, run-counts}
 
-none-shown : (img : List ℕ) (a k : ℕ) → (k ≡ 0 → ⊥) → answer k 0 ≡ ask img (countLines a) → Shown img a k 0 0
+none-shown : (img : List ℕ) (a k : ℕ) → (k ≡ 0 → ⊥) → answer k 0 ≡ ask img (listCount a) → Shown img a k 0 0
 none-shown img a k h e =
     record {
       answers = e;
@@ -58,9 +58,9 @@ lines-end img n ok few =
     let facts : Laid img = laid img ok in
     let used : n ≤ layoutOf img .lines .used = rw (rows-count (lineFormat w) (layoutOf img .lines) img) at few in
     let wide : n * lineSize img ≤ layoutOf img .lines .used * lineSize img = mul-le-mul-right (lineSize img) used in
-    let first : layoutOf img .lines .start ≤ layoutOf img .lines .end = starts-before-end (lineFormat w) (line-lawful w) (layoutOf img .lines) img (facts .lines-lie) in
+    let first : layoutOf img .lines .start ≤ layoutOf img .lines .end = starts-before-end (lineFormat w) (line-lawful w) (layoutOf img .lines) img (facts .lines-laid-out) in
     let rows : layoutOf img .lines .used * lineSize img ≤ layoutOf img .lines .end - layoutOf img .lines .start =
-    rows-extent (lineFormat w) (line-lawful w) (layoutOf img .lines) img (facts .lines-lie) in
+    rows-extent (lineFormat w) (line-lawful w) (layoutOf img .lines) img (facts .lines-laid-out) in
     let last : layoutOf img .lines .end ≤ length img = lines-inside img facts in
     within (layoutOf img .lines .start) (layoutOf img .lines .end) (n * lineSize img) (layoutOf img .lines .used * lineSize img) (length img) wide first rows last
   where
@@ -72,41 +72,41 @@ module _ (img : List ℕ) (o : Opened) (is : o ≡ opened img) (a : ℕ) where
   pub shown-image : (n : ℕ) → o ≡ Refused n → ShownBy img a (list.Refused n)
   shown-image n case =
       let bad : n ≡ 0 → ⊥ = refused-by img o is n case .1 in
-      (none-shown img a n bad (ask-image img o is (countLines a) (answer n 0) n case refl), bad)
+      (none-shown img a n bad (ask-image img o is (listCount a) (answer n 0) n case refl), bad)
 
   module _ (lay : Layout) (case : o ≡ With lay) (b : Bool) (listed : b ≡ isList (tablesBy lay img .items) a) where
     pub shown-no-list : not b ≡ true → ShownBy img a (list.Refused 13)
     unfolding askQuestions
     shown-no-list h =
         let bad : _≡_ {A = ℕ} 13 0 → ⊥ = λ z. omega arith in
-        (none-shown img a 13 bad (ask-no img o is (countLines a) (answer 13 0) lay case 13 refl (asked-no 13 _ [] b listed h) refl), bad)
+        (none-shown img a 13 bad (ask-no img o is (listCount a) (answer 13 0) lay case 13 refl (asked-no 13 _ [] b listed h) refl), bad)
 
     pub shown-rows : (first end : ℕ)
         → not b ≡ false
-        → first ≡ place lineKey (lowest a) (tablesBy lay img .lines)
+        → first ≡ insertionIndex lineKey (lowest a) (tablesBy lay img .lines)
         → end ≡ first + leading a (drop first (tablesBy lay img .lines))
         → ShownBy img a (Rows lay first end)
-    unfolding askQuestions told
+    unfolding askQuestions askResult
     shown-rows first end h at to =
         let accepted : check img ≡ 0 = opened-with img o is lay case .0 in
         let there : lay ≡ layoutOf img = layout-with img o is lay case in
         let asc : T (ascending lineKey (tables img .lines)) = lines-ascend img accepted in
-        let first-is : first ≡ place lineKey (lowest a) (tables img .lines) = at ∙ ap (λ (l : Layout). place lineKey (lowest a) (tablesBy l img .lines)) there in
-        let end-is : end ≡ first + leading a (drop (place lineKey (lowest a) (tables img .lines)) (tables img .lines)) =
+        let first-is : first ≡ insertionIndex lineKey (lowest a) (tables img .lines) = at ∙ ap (λ (l : Layout). insertionIndex lineKey (lowest a) (tablesBy l img .lines)) there in
+        let end-is : end ≡ first + leading a (drop (insertionIndex lineKey (lowest a) (tables img .lines)) (tables img .lines)) =
         to
         ∙ ap (λ (l : Layout). first + leading a (drop first (tablesBy l img .lines))) there
         ∙ ap (λ (k : ℕ). first + leading a (drop k (tables img .lines))) first-is in
         let count-is : end ≡ first + length (rowsOf a (tables img .lines)) =
         end-is ∙ ap (λ (k : ℕ). first + k) (run-counts a (tables img .lines) asc) in
-        let told-is : end - first ≡ length (rowsOf a (tables img .lines)) = omega arith in
-        let near : first ≤ length (tables img .lines) = rw first-is (place-le lineKey (lowest a) (tables img .lines)) in
-        let few : leading a (drop (place lineKey (lowest a) (tables img .lines)) (tables img .lines)) ≤ length (tables img .lines) - first =
-        rw first-is (rw (length-drop) at (leading-few a (drop (place lineKey (lowest a) (tables img .lines)) (tables img .lines)))) in
+        let rows-counted : end - first ≡ length (rowsOf a (tables img .lines)) = omega arith in
+        let near : first ≤ length (tables img .lines) = rw first-is (index-le lineKey (lowest a) (tables img .lines)) in
+        let few : leading a (drop (insertionIndex lineKey (lowest a) (tables img .lines)) (tables img .lines)) ≤ length (tables img .lines) - first =
+        rw first-is (rw (length-drop) at (leading-few a (drop (insertionIndex lineKey (lowest a) (tables img .lines)) (tables img .lines)))) in
         let far : end ≤ length (tables img .lines) = omega arith in (
           record {
             answers =
-                ask-done img o is (countLines a) (answer 0 (end - first)) lay case (end - first)
-                (asked-yes 13 _ [] b listed 0 h asked-all) (told-is ∙ ap (λ (l : Layout). length (rowsOf a (tablesBy l img .lines))) (sym there)) refl;
+                ask-done img o is (listCount a) (answer 0 (end - first)) lay case (end - first)
+                (asked-yes 13 _ [] b listed 0 h asked-all) (rows-counted ∙ ap (λ (l : Layout). length (rowsOf a (tablesBy l img .lines))) (sym there)) refl;
             ordered = omega arith;
             refused-none = λ d. absurd (d refl);
             begins = λ z. first-is ∙ run-begins a (tables img .lines) asc;
@@ -127,12 +127,12 @@ module _ (img : List ℕ) (a number first end : ℕ) (shown : Shown img a number
         let zero-rows : end - first ≡ 0 = omega arith in
         shows-is ∙ rw (eq-eqb (end - first) 0 zero-rows) (and-false (eqb number 0))
 
-    none-bytes : [] ≡ partBytes img a
-    unfolding partLength
+    none-bytes : [] ≡ listSlice img a
+    unfolding listExtent
     none-bytes = rw hidden
 
-    none-start : 0 ≡ partStart img a
-    unfolding partStart
+    none-start : 0 ≡ listStart img a
+    unfolding listStart
     none-start = rw hidden
 
   module _ (some : first < end) where
@@ -146,12 +146,12 @@ module _ (img : List ℕ) (a number first end : ℕ) (shown : Shown img a number
     visible : shows img a ≡ true
     visible = shows-is ∙ rw (eq-eqb number 0 passed, ne-eqb (end - first) 0 (λ z. omega arith))
 
-    some-start : partStart img a ≡ layoutOf img .lines .start + first * lineSize img
-    unfolding partStart
+    some-start : listStart img a ≡ layoutOf img .lines .start + first * lineSize img
+    unfolding listStart
     some-start = rw (visible, ← shown .begins passed)
 
-    some-length : partLength img a ≡ (end - first) * lineSize img
-    unfolding partLength
+    some-length : listExtent img a ≡ (end - first) * lineSize img
+    unfolding listExtent
     some-length =
         let rows : length (rowsOf a (tables img .lines)) ≡ end - first = omega (arith, shown .counts passed) in
         rw (visible, rows)
@@ -162,16 +162,16 @@ module _ (img : List ℕ) (a : ℕ) (o : ListRows) (is : ShownBy img a o) where
     refused : Shown img a n 0 0 × (n ≡ 0 → ⊥)
     refused = rw case at is
 
-    pub count-refused : (r : Answer) → r ≡ answer n 0 → r ≡ ask img (countLines a)
+    pub count-refused : (r : Answer) → r ≡ answer n 0 → r ≡ ask img (listCount a)
     count-refused r e = e ∙ refused .0 .answers
 
-    pub refused-bytes : [] ≡ partBytes img a
+    pub refused-bytes : [] ≡ listSlice img a
     refused-bytes = none-bytes img a n 0 0 (refused .0) (omega arith)
 
-    pub refused-start : 0 ≡ partStart img a
+    pub refused-start : 0 ≡ listStart img a
     refused-start = none-start img a n 0 0 (refused .0) (omega arith)
 
-    pub refused-at : (p : ℕ) → p ≡ partStart img a + p
+    pub refused-at : (p : ℕ) → p ≡ listStart img a + p
     refused-at p = rw (← refused-start) (sym (zero-add p))
 
   module _ (lay : Layout) (first end : ℕ) (case : o ≡ Rows lay first end) where
@@ -181,28 +181,28 @@ module _ (img : List ℕ) (a : ℕ) (o : ListRows) (is : ShownBy img a o) where
     pub rows-ordered : first ≤ end
     rows-ordered = rows .0 .ordered
 
-    pub count-done : (r : Answer) → r ≡ answer 0 (end - first) → r ≡ ask img (countLines a)
+    pub count-done : (r : Answer) → r ≡ answer 0 (end - first) → r ≡ ask img (listCount a)
     count-done r e = e ∙ rows .0 .answers
 
     module _ (none : end ≤ first) where
-      pub no-bytes : [] ≡ partBytes img a
+      pub no-bytes : [] ≡ listSlice img a
       no-bytes = none-bytes img a 0 first end (rows .0) none
 
-      pub no-start : 0 ≡ partStart img a
+      pub no-start : 0 ≡ listStart img a
       no-start = none-start img a 0 first end (rows .0) none
 
       -- p is where the image stands
-      pub no-at : (p : ℕ) → p ≡ partStart img a + p
+      pub no-at : (p : ℕ) → p ≡ listStart img a + p
       no-at p = rw (← no-start) (sym (zero-add p))
 
     module _ (some : first < end) (s : ℕ) (from : s ≡ lay .lines .start + first * size (lineFormat (widthOf lay))) where
       from-is : s ≡ layoutOf img .lines .start + first * lineSize img
       from-is = from ∙ ap (λ (l : Layout). l .lines .start + first * size (lineFormat (widthOf l))) (rows .1)
 
-      pub starts-at : s ≡ partStart img a
+      pub starts-at : s ≡ listStart img a
       starts-at = from-is ∙ sym (some-start img a 0 first end (rows .0) some)
 
-      pub some-at : (p : ℕ) → s + p ≡ partStart img a + p
+      pub some-at : (p : ℕ) → s + p ≡ listStart img a + p
       some-at p = ap (λ (k : ℕ). k + p) starts-at
 
       module _ (e : ℕ) (to : e ≡ lay .lines .start + end * size (lineFormat (widthOf lay))) where
@@ -212,7 +212,7 @@ module _ (img : List ℕ) (a : ℕ) (o : ListRows) (is : ShownBy img a o) where
         pub some-inside : e ≤ length img
         some-inside = omega (arith, to-is, rows .0 .inside refl)
 
-        pub some-bytes : take (e - s) (drop s img) ≡ partBytes img a
+        pub some-bytes : take (e - s) (drop s img) ≡ listSlice img a
         some-bytes =
             let split : end * lineSize img ≡ first * lineSize img + (end - first) * lineSize img =
             ap (λ (k : ℕ). k * lineSize img) (sum first end (omega arith)) ∙ add-mul first (end - first) (lineSize img) in

@@ -2,7 +2,7 @@
 ghost use mathlib.Core.Path.{_≡_};
 ghost use Prim.Native.Nat.{_+_};
 ghost use lib.ListN.{drop};
-ghost use Rattle.model.specs.Sorted.{place};
+ghost use Rattle.model.specs.Sorted.{insertionIndex};
 ghost use Rattle.model.specs.Image.{tablesBy, lineKey};
 ghost use Rattle.asking.specs.Found.{lowest, leading, ShownBy};
 use acceptance::open;
@@ -13,7 +13,7 @@ use model::Opened;
 use model::Subject;
 use model::refusal;
 use rows::read::line_at;
-use search::lines::line_rank;
+use search::lines::line_insertion_index;
 use tables::items::is_list;
 
 // What asking for the rows of a list comes to: by which layout they lie, the first of them and the one before which they end; or the number of the refusal.
@@ -42,9 +42,9 @@ pub fn shown_rows(image: &[u8], list: Item) -> ListRows
 
 // The row that the list's rows begin at: the place of the lowest key.
 fn run_start(image: &[u8], layout: Layout, list: Item) -> u32
-    ensures { λ r. ⌜ r ≡ place lineKey (lowest (list .0)) (tablesBy layout (now (image .entry)) .lines) ⌝ }
+    ensures { λ r. ⌜ r ≡ insertionIndex lineKey (lowest (list .0)) (tablesBy layout (now (image .entry)) .lines) ⌝ }
 {
-    line_rank(image, layout, list, LineRow::ITSELF, Subject(0))
+    line_insertion_index(image, layout, list, LineRow::ITSELF, Subject(0))
 }
 
 // The row before which they end, from the first on: rows are passed as long as they name the list.

@@ -15,7 +15,7 @@ use tables::items::item_used;
 use tables::subjects::subject_used;
 
 // Check an image.
-pub fn check_image(image: &[u8]) -> Answer
+pub fn check(image: &[u8]) -> Answer
     ensures { λ r. ⌜ r ≡ ask (now (image .entry)) checkImage ⌝ }
 {
     let opened = open(image);

@@ -6,14 +6,14 @@ use lib.Dec.{eqb}
 use lib.ListN.{getD}
 use Rattle.model.specs.declared.GrantRow.{GrantRow}
 use Rattle.model.specs.Image.{noGrant}
-use Rattle.search.specs.declared.Spot.{Spot}
-use Rattle.search.specs.declared.Spot.the-variants.{Over, New}
+use Rattle.search.specs.declared.RowIndex.{RowIndex}
+use Rattle.search.specs.declared.RowIndex.the-variants.{Existing, New}
 
 -- c is the grantor of row n
 abbrev pub givenAt : List GrantRow → ℕ → ℕ → Bool
 givenAt rows c n = eqb (getD rows n noGrant .grantor .0) c
 
 -- c may set the grant that goes to a spot: a row that is there has to be its own
-abbrev pub maySet : List GrantRow → ℕ → Spot → Bool
-maySet rows c (Over n) = givenAt rows c n
+abbrev pub maySet : List GrantRow → ℕ → RowIndex → Bool
+maySet rows c (Existing n) = givenAt rows c n
 maySet rows c (New n) = true

@@ -9,16 +9,16 @@ use lib.Dec.{eqb}
 use lib.ListN.{getD}
 use Rattle.model.specs.declared.GrantRow.{GrantRow}
 use Rattle.model.specs.Lists.{isThere}
-use Rattle.model.specs.Sorted.{find, place}
+use Rattle.model.specs.Sorted.{find, insertionIndex}
 use Rattle.model.specs.WhoAndWhat.{custodian}
 use Rattle.model.specs.Image.{grantKey, noGrant}
 use Rattle.model.specs.Questions.{Question, _asks_, firstNo, givenBy}
 use Rattle.laws.specs.Sorted.{found-at}
 use Rattle.laws.specs.Answers.{first-left, first-right}
-use Rattle.search.specs.declared.Spot.{Spot}
-use Rattle.search.specs.declared.Spot.the-variants.{Over, New}
-use Rattle.search.specs.Spots.{spotIn}
-use Rattle.search.specs.SpotLaws.{over-place}
+use Rattle.search.specs.declared.RowIndex.{RowIndex}
+use Rattle.search.specs.declared.RowIndex.the-variants.{Existing, New}
+use Rattle.search.specs.RowIndices.{rowIndex}
+use Rattle.search.specs.RowIndexLaws.{existing-index}
 use Rattle.changing_grants.specs.GivenAt.{givenAt, maySet}
 
 -- What set grant asks of the numbers that it is given, and the rest. n is what the first four said.
@@ -41,33 +41,33 @@ pub grantor-read : (rows : List GrantRow) (n c : ℕ) (x : GrantRow) → x ≡ g
 grantor-read rows n c x read = rw read
 
 -- whether it may be set, by where it goes
-module _ (rows : List GrantRow) (c : ℕ) (spot : Spot) (n : ℕ) where
-  pub set-over : (t : Bool) → spot ≡ Over n → t ≡ givenAt rows c n → t ≡ maySet rows c spot
-  set-over t case e = e ∙ rw case
+module _ (rows : List GrantRow) (c : ℕ) (index : RowIndex) (n : ℕ) where
+  pub set-existing : (t : Bool) → index ≡ Existing n → t ≡ givenAt rows c n → t ≡ maySet rows c index
+  set-existing t case e = e ∙ rw case
 
-  pub set-new : spot ≡ New n → true ≡ maySet rows c spot
+  pub set-new : index ≡ New n → true ≡ maySet rows c index
   set-new case = rw case
 
 -- the grantor of the row at the key's place is that of the row that the search finds
 module _ (rows : List GrantRow) (k : List ℕ) (c : ℕ) where
-  given-found : (g : GrantRow) → find grantKey k rows ≡ some g → givenAt rows c (place grantKey k rows) ≡ givenBy c (some g)
+  given-found : (g : GrantRow) → find grantKey k rows ≡ some g → givenAt rows c (insertionIndex grantKey k rows) ≡ givenBy c (some g)
   given-found g e = ap (λ (x : GrantRow). eqb (x .grantor .0) c) (found-at grantKey k rows g noGrant e)
 
   -- What callees say of the spot, as t, they say of the row that the search finds.
-  module _ (spot : Spot) (found : spot ≡ spotIn grantKey k rows) (t : Bool) where
-    pub set-found : t ≡ maySet rows c spot → t ≡ (not (isThere (find grantKey k rows)) || givenBy c (find grantKey k rows))
+  module _ (index : RowIndex) (found : index ≡ rowIndex grantKey k rows) (t : Bool) where
+    pub set-found : t ≡ maySet rows c index → t ≡ (not (isThere (find grantKey k rows)) || givenBy c (find grantKey k rows))
     set-found e = e ∙ ap (maySet rows c) found ∙ go (find grantKey k rows) refl
       where
         go : (o : Option GrantRow) → find grantKey k rows ≡ o
-            → maySet rows c (cond (isThere o) (Over (place grantKey k rows)) (New (place grantKey k rows))) ≡ (not (isThere o) || givenBy c o)
+            → maySet rows c (cond (isThere o) (Existing (insertionIndex grantKey k rows)) (New (insertionIndex grantKey k rows))) ≡ (not (isThere o) || givenBy c o)
         go none f = refl
         go (some g) f = given-found g f
 
-    pub remove-found : (n : ℕ) → spot ≡ Over n → isThere (find grantKey k rows) ≡ true → t ≡ (givenAt rows c n || eqb c custodian)
+    pub remove-found : (n : ℕ) → index ≡ Existing n → isThere (find grantKey k rows) ≡ true → t ≡ (givenAt rows c n || eqb c custodian)
         → t ≡ (givenBy c (find grantKey k rows) || eqb c custodian)
-    remove-found n case there e = e ∙ ap (λ (i : ℕ). givenAt rows c i || eqb c custodian) (over-place grantKey k rows spot n found case) ∙ go (find grantKey k rows) refl there
+    remove-found n case there e = e ∙ ap (λ (i : ℕ). givenAt rows c i || eqb c custodian) (existing-index grantKey k rows index n found case) ∙ go (find grantKey k rows) refl there
       where
         go : (o : Option GrantRow) → find grantKey k rows ≡ o → isThere o ≡ true
-            → (givenAt rows c (place grantKey k rows) || eqb c custodian) ≡ (givenBy c o || eqb c custodian)
+            → (givenAt rows c (insertionIndex grantKey k rows) || eqb c custodian) ≡ (givenBy c o || eqb c custodian)
         go none f u = absurd (false≢true u)
         go (some g) f u = ap (λ (b : Bool). b || eqb c custodian) (given-found g f)

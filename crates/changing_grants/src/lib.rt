@@ -40,9 +40,9 @@ pub fn set_grant(
     let asked = set_grant_storing(image, layout, caller, receiver, role, domain, privileges);
     match asked {
         Storing::Refused(number) => Answer::refused(number),
-        Storing::At(spot) => {
+        Storing::At(index) => {
             let row = GrantRow::new(receiver, role, caller, domain, privileges);
-            store_grant(image, layout, spot, row);
+            store_grant(image, layout, index, row);
             Answer::done(0)
         }
     }

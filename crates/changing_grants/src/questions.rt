@@ -4,12 +4,12 @@ ghost use mathlib.Core.List.{[], _∷_};
 ghost use mathlib.Core.Path.{_≡_};
 ghost use lib.Dec.{eqb, ltb};
 ghost use lib.ListN.{take};
-ghost use Rattle.model.specs.Sorted.{place};
+ghost use Rattle.model.specs.Sorted.{insertionIndex};
 ghost use Rattle.model.specs.WhoAndWhat.{custodian};
-ghost use Rattle.model.specs.Image.{tablesBy, roomsBy, grantKey};
+ghost use Rattle.model.specs.Image.{tablesBy, capacitiesBy, grantKey};
 ghost use Rattle.model.specs.Calls.Change.{setGrant, removeGrant};
 ghost use Rattle.model.specs.Questions.{questions, firstNo};
-ghost use Rattle.search.specs.Spots.{isOver, spotIn};
+ghost use Rattle.search.specs.RowIndices.{isExisting, rowIndex};
 ghost use Rattle.store.specs.Stores.{storing, removing, storingNumber, removingNumber};
 ghost use Rattle.changing_grants.specs.GivenAt.{givenAt, maySet};
 use model::CUSTODIAN;
@@ -19,8 +19,8 @@ use model::Role;
 use model::Subject;
 use model::refusal;
 use rows::read::grant_at;
-use search::Spot;
-use search::grants::grant_spot;
+use search::RowIndex;
+use search::grants::grant_index;
 use store::Removing;
 use store::Storing;
 use tables::free::grant_free;
@@ -37,7 +37,7 @@ pub fn set_grant_storing(
     domain: Subject,
     privileges: Privileges,
 ) -> Storing
-    ensures { λ r. ⌜ r ≡ storing (firstNo (questions (tablesBy layout (now (image .entry))) (setGrant (caller .0) (receiver .0) (role .0) (domain .0) privileges))) (spotIn grantKey (receiver .0 ∷ role .0 ∷ []) (tablesBy layout (now (image .entry)) .grants)) ⌝ }
+    ensures { λ r. ⌜ r ≡ storing (firstNo (questions (tablesBy layout (now (image .entry))) (setGrant (caller .0) (receiver .0) (role .0) (domain .0) privileges))) (rowIndex grantKey (receiver .0 ∷ role .0 ∷ []) (tablesBy layout (now (image .entry)) .grants)) ⌝ }
     ensures { λ r. ⌜ storingNumber r ≡ firstNo (questions (tablesBy layout (now (image .entry))) (setGrant (caller .0) (receiver .0) (role .0) (domain .0) privileges)) ⌝ }
 {
     let number = named_refusal(image, layout, caller, receiver, role, domain, privileges);
@@ -47,14 +47,14 @@ pub fn set_grant_storing(
     if !in_tree(image, layout, caller, domain) {
         return Storing::Refused(refusal::TREE);
     }
-    let spot = grant_spot(image, layout, receiver, role);
-    if !may_set(image, layout, spot, caller) {
+    let index = grant_index(image, layout, receiver, role);
+    if !may_set(image, layout, index, caller) {
         return Storing::Refused(refusal::NOT_YOURS);
     }
-    if !has_room(layout, spot) {
+    if !has_capacity(layout, index) {
         return Storing::Refused(refusal::FULL);
     }
-    Storing::At(spot)
+    Storing::At(index)
 }
 
 // What set grant asks of the numbers that it is given: 10, 11 of two subjects, and 14.
@@ -92,7 +92,7 @@ pub fn remove_grant_removing(
     receiver: Subject,
     role: Role,
 ) -> Removing
-    ensures { λ r. ⌜ r ≡ removing (firstNo (questions (tablesBy layout (now (image .entry))) (removeGrant (caller .0) (receiver .0) (role .0)))) (place grantKey (receiver .0 ∷ role .0 ∷ []) (tablesBy layout (now (image .entry)) .grants)) ⌝ }
+    ensures { λ r. ⌜ r ≡ removing (firstNo (questions (tablesBy layout (now (image .entry))) (removeGrant (caller .0) (receiver .0) (role .0)))) (insertionIndex grantKey (receiver .0 ∷ role .0 ∷ []) (tablesBy layout (now (image .entry)) .grants)) ⌝ }
     ensures { λ r. ⌜ removingNumber r ≡ firstNo (questions (tablesBy layout (now (image .entry))) (removeGrant (caller .0) (receiver .0) (role .0))) ⌝ }
 {
     if !subject_used(image, layout, caller) {
@@ -104,8 +104,8 @@ pub fn remove_grant_removing(
     if role.0 == 0 {
         return Removing::Refused(refusal::RANGE);
     }
-    let spot = grant_spot(image, layout, receiver, role);
-    let Spot::Over(row) = spot else {
+    let index = grant_index(image, layout, receiver, role);
+    let RowIndex::Existing(row) = index else {
         return Removing::Refused(refusal::NO_ROW);
     };
     if !may_remove(image, layout, row, caller) {
@@ -115,20 +115,20 @@ pub fn remove_grant_removing(
 }
 
 // A row that is there is its grantor's to overwrite.
-fn may_set(image: &[u8], layout: Layout, spot: Spot, caller: Subject) -> bool
-    ensures { λ r. ⌜ r ≡ maySet (tablesBy layout (now (image .entry)) .grants) (caller .0) spot ⌝ }
+fn may_set(image: &[u8], layout: Layout, index: RowIndex, caller: Subject) -> bool
+    ensures { λ r. ⌜ r ≡ maySet (tablesBy layout (now (image .entry)) .grants) (caller .0) index ⌝ }
 {
-    match spot {
-        Spot::Over(n) => given_by(image, layout, n, caller),
-        Spot::New(_) => true,
+    match index {
+        RowIndex::Existing(n) => given_by(image, layout, n, caller),
+        RowIndex::New(_) => true,
     }
 }
 
 // Only a new row needs a free one: a row that is there is overwritten.
-fn has_room(layout: Layout, spot: Spot) -> bool
-    ensures { λ r. ⌜ r ≡ (isOver spot || ltb (layout .grants .used) (roomsBy layout .grants)) ⌝ }
+fn has_capacity(layout: Layout, index: RowIndex) -> bool
+    ensures { λ r. ⌜ r ≡ (isExisting index || ltb (layout .grants .used) (capacitiesBy layout .grants)) ⌝ }
 {
-    if spot.is_over() {
+    if index.is_existing() {
         return true;
     }
     grant_free(layout)

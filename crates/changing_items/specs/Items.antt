@@ -15,7 +15,7 @@ use Rattle.model.specs.declared.Opened.the-variants.{With}
 use Rattle.model.specs.declared.Table.{Table}
 use Rattle.model.specs.declared.ItemRow.{ItemRow}
 use Rattle.model.specs.Image.{layoutOf, tablesBy, tables, size, rowsIn, itemFormat, itemRow, itemIn, encode, withList, withOwner}
-use Rattle.model.specs.Calls.{withItems, after, made}
+use Rattle.model.specs.Calls.{withItems, after, changeResult}
 use Rattle.model.specs.Calls.Change.{createItem, bind, handOver}
 use Rattle.model.specs.Questions.{firstNo, questions, answer, opened, act}
 use Rattle.laws.specs.WellFormed.{Passed}
@@ -39,9 +39,9 @@ module _ (x old : ItemRow) (read : x ≡ old) (y : ItemRow) where
 
 -- The new item's number, which fits its type: there is a free row.
 module _ (img : List ℕ) (lay : Layout) (c r l f : ℕ) where
-  pub made-item : lay .items .used + 1 ≡ made (tablesBy lay img) (createItem c r l f)
-  unfolding made tablesBy
-  made-item = rw (rows-count itemFormat (lay .items) img, add-one)
+  pub result-item : lay .items .used + 1 ≡ changeResult (tablesBy lay img) (createItem c r l f)
+  unfolding changeResult tablesBy
+  result-item = rw (rows-count itemFormat (lay .items) img, add-one)
 
   pub number-fits : (k : ℕ) → k ≡ firstNo (questions (tablesBy lay img) (createItem c r l f)) → k ≡ 0 → lay .items .end < 2 ^ 32 → lay .items .used + 1 < 2 ^ 32
   unfolding questions tablesBy
@@ -51,7 +51,7 @@ module _ (img : List ℕ) (lay : Layout) (c r l f : ℕ) where
       let few : length (rowsIn itemFormat (lay .items) img) ≡ lay .items .used = rows-count itemFormat (lay .items) img in
       omega arith
 
-module _ (img : List ℕ) (o : Opened) (is : o ≡ opened img) (lay : Layout) (case : o ≡ With lay) (a : Answer) (m : ℕ) (told : a ≡ answer 0 m) (new : List ℕ) where
+module _ (img : List ℕ) (o : Opened) (is : o ≡ opened img) (lay : Layout) (case : o ≡ With lay) (a : Answer) (m : ℕ) (said : a ≡ answer 0 m) (new : List ℕ) where
   there : lay ≡ layoutOf img
   there = layout-with img o is lay case
 
@@ -63,11 +63,11 @@ module _ (img : List ℕ) (o : Opened) (is : o ≡ opened img) (lay : Layout) (c
       → new ≡ act img (createItem c r l f) .image
   unfolding questions after tablesBy
   item-created c r l f x row e bytes answered =
-      row-more itemFormat (layoutOf img .items) itemsCounter (tables img .room .items) img
+      row-more itemFormat (layoutOf img .items) itemsCounter (tables img .capacities .items) img
       (λ rows. encode (withItems (tables img) rows))
       (items-stored img)
       (createItem c r l f)
-      a answered m told bytes new (itemRow c l f) refl
+      a answered m said bytes new (itemRow c l f) refl
       (λ passed. passed .1 .1 .1 .1 .0)
       (e ∙ rw (row, there) refl)
 
@@ -78,7 +78,7 @@ module _ (img : List ℕ) (o : Opened) (is : o ≡ opened img) (lay : Layout) (c
       → new ≡ act img (bind c i l) .image
   unfolding questions after
   item-bound c i l e bytes answered =
-      item-anew img (bind c i l) a answered m told bytes new i (withList (itemIn (tables img .items) i) l) refl (λ passed. passed .1 .0) (e ∙ rw there refl)
+      item-anew img (bind c i l) a answered m said bytes new i (withList (itemIn (tables img .items) i) l) refl (λ passed. passed .1 .0) (e ∙ rw there refl)
 
   pub item-handed : (c i w : ℕ)
       → new ≡ overItem (lay .items) i (withOwner (itemIn (tablesBy lay img .items) i) w) img
@@ -87,4 +87,4 @@ module _ (img : List ℕ) (o : Opened) (is : o ≡ opened img) (lay : Layout) (c
       → new ≡ act img (handOver c i w) .image
   unfolding questions after
   item-handed c i w e bytes answered =
-      item-anew img (handOver c i w) a answered m told bytes new i (withOwner (itemIn (tables img .items) i) w) refl (λ passed. passed .1 .1 .0) (e ∙ rw there refl)
+      item-anew img (handOver c i w) a answered m said bytes new i (withOwner (itemIn (tables img .items) i) w) refl (λ passed. passed .1 .1 .0) (e ∙ rw there refl)

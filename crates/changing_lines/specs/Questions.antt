@@ -5,7 +5,7 @@ use mathlib.Core.Path.{_≡_}
 use Prim.Native.Nat.{ℕ}
 use Rattle.model.specs.WhoAndWhat.{has}
 use Rattle.model.specs.Questions.{Question, _asks_, firstNo}
-use Rattle.laws.specs.Sets.{has-told}
+use Rattle.laws.specs.Sets.{has-same}
 use Rattle.laws.specs.Answers.{asked-no, asked-yes, first-left, first-right}
 
 -- n is what the first four said
@@ -17,9 +17,9 @@ module _ (a b c d : Bool) (qs : List Question) (n : ℕ) (said : n ≡ firstNo (
   named-yes r h e = first-right (10 asks a ∷ 11 asks b ∷ 13 asks c ∷ 14 asks d ∷ []) qs n tt said r h e
 
 -- 15: the position and the set are what callees gave
-module _ (p s q m : ℕ) (qs : List Question) (t : Bool) (told : t ≡ has p s) (needed : p ≡ q) (given : s ≡ m) where
+module _ (p s q m : ℕ) (qs : List Question) (t : Bool) (said : t ≡ has p s) (needed : p ≡ q) (given : s ≡ m) where
   pub right-no : not t ≡ true → 15 ≡ firstNo (15 asks has q m ∷ qs)
-  right-no h = asked-no 15 (has q m) qs t (has-told p q s m t needed given told) h
+  right-no h = asked-no 15 (has q m) qs t (has-same p q s m t needed given said) h
 
   pub right-yes : (r : ℕ) → not t ≡ false → r ≡ firstNo qs → r ≡ firstNo (15 asks has q m ∷ qs)
-  right-yes r h e = asked-yes 15 (has q m) qs t (has-told p q s m t needed given told) r h e
+  right-yes r h e = asked-yes 15 (has q m) qs t (has-same p q s m t needed given said) r h e

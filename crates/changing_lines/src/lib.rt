@@ -42,9 +42,9 @@ pub fn set_line(
     let asked = set_line_storing(image, layout, caller, role, list, kind, subject, privileges);
     match asked {
         Storing::Refused(number) => Answer::refused(number),
-        Storing::At(spot) => {
+        Storing::At(index) => {
             let row = LineRow::new(list, kind, subject, privileges);
-            store_line(image, layout, spot, row);
+            store_line(image, layout, index, row);
             Answer::done(0)
         }
     }

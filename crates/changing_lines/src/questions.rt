@@ -5,11 +5,11 @@ ghost use mathlib.Core.List.{[], _∷_};
 ghost use mathlib.Core.Path.{_≡_};
 ghost use lib.Dec.{ltb};
 ghost use lib.ListN.{take};
-ghost use Rattle.model.specs.Sorted.{place};
-ghost use Rattle.model.specs.Image.{tablesBy, roomsBy, lineKey};
+ghost use Rattle.model.specs.Sorted.{insertionIndex};
+ghost use Rattle.model.specs.Image.{tablesBy, capacitiesBy, lineKey};
 ghost use Rattle.model.specs.Calls.Change.{setLine, removeLine};
 ghost use Rattle.model.specs.Questions.{questions, firstNo};
-ghost use Rattle.search.specs.Spots.{isOver, spotIn};
+ghost use Rattle.search.specs.RowIndices.{isExisting, rowIndex};
 ghost use Rattle.store.specs.Stores.{storing, removing, storingNumber, removingNumber};
 use model::Item;
 use model::Layout;
@@ -22,9 +22,9 @@ use model::has;
 use model::needed_position;
 use model::refusal;
 use permission::decision::permissions;
-use search::Spot;
+use search::RowIndex;
 use search::lines::kind_fits;
-use search::lines::line_spot;
+use search::lines::line_index;
 use store::Removing;
 use store::Storing;
 use tables::free::line_free;
@@ -42,7 +42,7 @@ pub fn set_line_storing(
     subject: Subject,
     privileges: Privileges,
 ) -> Storing
-    ensures { λ r. ⌜ r ≡ storing (firstNo (questions (tablesBy layout (now (image .entry))) (setLine (caller .0) (role .0) (list .0) kind (subject .0) privileges))) (spotIn lineKey (list .0 ∷ kind ∷ subject .0 ∷ []) (tablesBy layout (now (image .entry)) .lines)) ⌝ }
+    ensures { λ r. ⌜ r ≡ storing (firstNo (questions (tablesBy layout (now (image .entry))) (setLine (caller .0) (role .0) (list .0) kind (subject .0) privileges))) (rowIndex lineKey (list .0 ∷ kind ∷ subject .0 ∷ []) (tablesBy layout (now (image .entry)) .lines)) ⌝ }
     ensures { λ r. ⌜ storingNumber r ≡ firstNo (questions (tablesBy layout (now (image .entry))) (setLine (caller .0) (role .0) (list .0) kind (subject .0) privileges)) ⌝ }
 {
     let number = named_refusal(image, layout, caller, list, kind, subject);
@@ -55,11 +55,11 @@ pub fn set_line_storing(
     ) {
         return Storing::Refused(refusal::RIGHT);
     }
-    let spot = line_spot(image, layout, list, kind, subject);
-    if !has_room(layout, spot) {
+    let index = line_index(image, layout, list, kind, subject);
+    if !has_capacity(layout, index) {
         return Storing::Refused(refusal::FULL);
     }
-    Storing::At(spot)
+    Storing::At(index)
 }
 
 // Remove line: which row it is.
@@ -72,7 +72,7 @@ pub fn remove_line_removing(
     kind: u32,
     subject: Subject,
 ) -> Removing
-    ensures { λ r. ⌜ r ≡ removing (firstNo (questions (tablesBy layout (now (image .entry))) (removeLine (caller .0) (role .0) (list .0) kind (subject .0)))) (place lineKey (list .0 ∷ kind ∷ subject .0 ∷ []) (tablesBy layout (now (image .entry)) .lines)) ⌝ }
+    ensures { λ r. ⌜ r ≡ removing (firstNo (questions (tablesBy layout (now (image .entry))) (removeLine (caller .0) (role .0) (list .0) kind (subject .0)))) (insertionIndex lineKey (list .0 ∷ kind ∷ subject .0 ∷ []) (tablesBy layout (now (image .entry)) .lines)) ⌝ }
     ensures { λ r. ⌜ removingNumber r ≡ firstNo (questions (tablesBy layout (now (image .entry))) (removeLine (caller .0) (role .0) (list .0) kind (subject .0))) ⌝ }
 {
     let number = named_refusal(image, layout, caller, list, kind, subject);
@@ -85,10 +85,10 @@ pub fn remove_line_removing(
     ) {
         return Removing::Refused(refusal::RIGHT);
     }
-    let spot = line_spot(image, layout, list, kind, subject);
-    match spot {
-        Spot::Over(row) => Removing::Row(row),
-        Spot::New(_) => Removing::Refused(refusal::NO_ROW),
+    let index = line_index(image, layout, list, kind, subject);
+    match index {
+        RowIndex::Existing(row) => Removing::Row(row),
+        RowIndex::New(_) => Removing::Refused(refusal::NO_ROW),
     }
 }
 
@@ -119,10 +119,10 @@ fn named_refusal(
 }
 
 // Only a new row needs a free one: a row that is there is overwritten.
-fn has_room(layout: Layout, spot: Spot) -> bool
-    ensures { λ r. ⌜ r ≡ (isOver spot || ltb (layout .lines .used) (roomsBy layout .lines)) ⌝ }
+fn has_capacity(layout: Layout, index: RowIndex) -> bool
+    ensures { λ r. ⌜ r ≡ (isExisting index || ltb (layout .lines .used) (capacitiesBy layout .lines)) ⌝ }
 {
-    if spot.is_over() {
+    if index.is_existing() {
         return true;
     }
     line_free(layout)

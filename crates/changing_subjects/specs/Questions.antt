@@ -12,7 +12,7 @@ use Rattle.model.specs.WhoAndWhat.{defineCall, neededPosition, has}
 use Rattle.model.specs.Image.{Tables, parentIn}
 use Rattle.model.specs.Permission.{foundGrant, grantOf, operationUnder, operationSet}
 use Rattle.model.specs.Questions.{Question, _asks_, firstNo, inReachUnder, inReach}
-use Rattle.laws.specs.Sets.{has-told}
+use Rattle.laws.specs.Sets.{has-same}
 use Rattle.laws.specs.Answers.{first-left, first-right}
 
 -- What is asked of the numbers that the call is given, and the rest. n is what the first two said.
@@ -32,15 +32,15 @@ module _ (t : Tables) (c p : ℕ) (x : SoughtGrant) (b : Bool) (own : b ≡ inTr
         → x ≡ Grant g
         → r ≡ inTree (parentIn (t .subjects)) (g .grantor .0) p
         → r ≡ inReachUnder t c (foundGrant x) p
-    reach-lent g r told e = rw (told, ← own, outside) e
+    reach-lent g r said e = rw (said, ← own, outside) e
 
     pub reach-none : x ≡ NoGrant → false ≡ inReachUnder t c (foundGrant x) p
-    reach-none told = rw (told, ← own, outside)
+    reach-none said = rw (said, ← own, outside)
 
 -- under the grant of the claimed role
 module _ (t : Tables) (c role : ℕ) (g : Option GrantRow) (found : g ≡ grantOf t c role) (r : Bool) where
   pub right-claimed : (n s : ℕ) → n ≡ neededPosition defineCall → s ≡ operationUnder t c g → r ≡ has n s → r ≡ has (neededPosition defineCall) (operationSet t c role)
-  right-claimed n s position set e = rw (← found) (has-told n (neededPosition defineCall) s (operationUnder t c g) r position set e)
+  right-claimed n s position set e = rw (← found) (has-same n (neededPosition defineCall) s (operationUnder t c g) r position set e)
 
   pub reach-claimed : (p : ℕ) → r ≡ inReachUnder t c g p → r ≡ inReach t c role p
   reach-claimed p e = rw (← found) e

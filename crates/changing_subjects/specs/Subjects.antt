@@ -14,7 +14,7 @@ use Rattle.model.specs.declared.Table.{Table}
 use Rattle.model.specs.declared.SubjectRow.{SubjectRow}
 use Rattle.model.specs.WhoAndWhat.{_∩_}
 use Rattle.model.specs.Image.{Tables, layoutOf, tablesBy, tables, widthOf, subjectFormat, subjectRow, privilegesIn, encode}
-use Rattle.model.specs.Calls.{stored, withSubjects, after, made}
+use Rattle.model.specs.Calls.{newPrivileges, withSubjects, after, changeResult}
 use Rattle.model.specs.Calls.Change.{defineSubject}
 use Rattle.model.specs.Questions.{questions, answer, opened, act}
 use Rattle.laws.specs.Rows.{rows-count}
@@ -25,39 +25,39 @@ use Rattle.store.specs.Calls.{row-more}
 
 -- the privileges that are stored, by who calls
 module _ (t : Tables) (c v : ℕ) where
-  pub stored-given : c ≡ 0 → v ≡ stored t c v
-  stored-given e = rw (eq-eqb c 0 e)
+  pub new-privileges-given : c ≡ 0 → v ≡ newPrivileges t c v
+  new-privileges-given e = rw (eq-eqb c 0 e)
 
-  pub stored-cut : (own r : ℕ) → (c ≡ 0 → ⊥) → own ≡ privilegesIn (t .subjects) c → r ≡ v ∩ own → r ≡ stored t c v
-  stored-cut own r h is e = rw (e, is, ne-eqb c 0 h)
+  pub new-privileges-cut : (own r : ℕ) → (c ≡ 0 → ⊥) → own ≡ privilegesIn (t .subjects) c → r ≡ v ∩ own → r ≡ newPrivileges t c v
+  new-privileges-cut own r h is e = rw (e, is, ne-eqb c 0 h)
 
 -- the row that was made, told by callees
-pub defined-row : (t : Tables) (table : Table) (img new : List ℕ) (w c p v kept : ℕ) (x : SubjectRow)
-    → kept ≡ stored t c v
-    → x ≡ subjectRow p kept c
+pub defined-row : (t : Tables) (table : Table) (img new : List ℕ) (w c p v held : ℕ) (x : SubjectRow)
+    → held ≡ newPrivileges t c v
+    → x ≡ subjectRow p held c
     → new ≡ withRow (subjectFormat w) subjectsCounter table (table .used) x img
-    → new ≡ withRow (subjectFormat w) subjectsCounter table (table .used) (subjectRow p (stored t c v) c) img
-defined-row t table img new w c p v kept x is row e = rw (e, row, is)
+    → new ≡ withRow (subjectFormat w) subjectsCounter table (table .used) (subjectRow p (newPrivileges t c v) c) img
+defined-row t table img new w c p v held x is row e = rw (e, row, is)
 
 module _ (img : List ℕ) (o : Opened) (is : o ≡ opened img) (lay : Layout) (case : o ≡ With lay) (c r p v : ℕ) where
-  pub made-subject : lay .subjects .used ≡ made (tablesBy lay img) (defineSubject c r p v)
-  unfolding made tablesBy
-  made-subject = sym (rows-count (subjectFormat (widthOf lay)) (lay .subjects) img)
+  pub result-subject : lay .subjects .used ≡ changeResult (tablesBy lay img) (defineSubject c r p v)
+  unfolding changeResult tablesBy
+  result-subject = sym (rows-count (subjectFormat (widthOf lay)) (lay .subjects) img)
 
   pub defined : (a : Answer) (new : List ℕ) (m : ℕ)
       → a ≡ answer 0 m
-      → new ≡ withRow (subjectFormat (widthOf lay)) subjectsCounter (lay .subjects) (lay .subjects .used) (subjectRow p (stored (tablesBy lay img) c v) c) img
+      → new ≡ withRow (subjectFormat (widthOf lay)) subjectsCounter (lay .subjects) (lay .subjects .used) (subjectRow p (newPrivileges (tablesBy lay img) c v) c) img
       → ((i : ℕ) → Fits w8 (getD img i 0))
       → a ≡ act img (defineSubject c r p v) .answer
       → new ≡ act img (defineSubject c r p v) .image
   unfolding questions after tablesBy
-  defined a new m told e bytes answered =
-      row-more (subjectFormat (widthOf (layoutOf img))) (layoutOf img .subjects) subjectsCounter (tables img .room .subjects) img
+  defined a new m said e bytes answered =
+      row-more (subjectFormat (widthOf (layoutOf img))) (layoutOf img .subjects) subjectsCounter (tables img .capacities .subjects) img
       (λ rows. encode (withSubjects (tables img) rows))
       (subjects-stored img)
       (defineSubject c r p v)
-      a answered m told bytes new
-      (subjectRow p (stored (tables img) c v) c)
+      a answered m said bytes new
+      (subjectRow p (newPrivileges (tables img) c v) c)
       refl
       (λ passed. passed .1 .1 .1 .1 .0)
       (e ∙ rw (layout-with img o is lay case) refl)

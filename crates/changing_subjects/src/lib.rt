@@ -1,7 +1,7 @@
 // The call that changes subjects: define subject.
 ghost use mathlib.Core.Path.{_≡_};
 ghost use Rattle.model.specs.Image.{tablesBy, widthOf, subjectFormat, subjectRow};
-ghost use Rattle.model.specs.Calls.{stored};
+ghost use Rattle.model.specs.Calls.{newPrivileges};
 ghost use Rattle.model.specs.Calls.Change.{defineSubject};
 ghost use Rattle.model.specs.Questions.{act};
 ghost use Rattle.store.specs.Stores.{subjectsCounter, withRow};
@@ -56,20 +56,20 @@ fn add_defined(
     parent: Subject,
     privileges: Privileges,
 )
-    ensures { λ _. ⌜ now (image .exit) ≡ withRow (subjectFormat (widthOf layout)) subjectsCounter (layout .subjects) (layout .subjects .used) (subjectRow (parent .0) (stored (tablesBy layout (now (image .entry))) (caller .0) privileges) (caller .0)) (now (image .entry)) ⌝ }
+    ensures { λ _. ⌜ now (image .exit) ≡ withRow (subjectFormat (widthOf layout)) subjectsCounter (layout .subjects) (layout .subjects .used) (subjectRow (parent .0) (newPrivileges (tablesBy layout (now (image .entry))) (caller .0) privileges) (caller .0)) (now (image .entry)) ⌝ }
 {
-    let kept = kept_privileges(image, layout, caller, privileges);
-    add_subject(image, layout, SubjectRow::new(parent, kept, caller));
+    let held = new_privileges(image, layout, caller, privileges);
+    add_subject(image, layout, SubjectRow::new(parent, held, caller));
 }
 
 // As given for the custodian; otherwise what the caller's own row also has. A claimed role lends nothing here.
-fn kept_privileges(
+fn new_privileges(
     image: &[u8],
     layout: Layout,
     caller: Subject,
     privileges: Privileges,
 ) -> Privileges
-    ensures { λ r. ⌜ r ≡ stored (tablesBy layout (now (image .entry))) (caller .0) privileges ⌝ }
+    ensures { λ r. ⌜ r ≡ newPrivileges (tablesBy layout (now (image .entry))) (caller .0) privileges ⌝ }
 {
     if caller.0 == CUSTODIAN {
         return privileges;

@@ -36,7 +36,7 @@ rivals =
           ∷ lineRow 2 ownerKind 0 64
           ∷ [];
       items = itemRow 2 1 1 ∷ itemRow 0 0 1 ∷ itemRow 0 1 0 ∷ [];
-      room = record { subjects = 7; grants = 2; lines = 7; items = 3 };
+      capacities = record { subjects = 7; grants = 2; lines = 7; items = 3 };
     }
 
 -- A way of three lists: item 4 is the document, list 1 controls it, list 2 controls list 1, list 3 controls list 2. 1 may edit list 2.
@@ -47,7 +47,7 @@ threeLists =
       grants = [];
       lines = lineRow 3 itselfKind 1 64 ∷ [];
       items = itemRow 0 2 1 ∷ itemRow 0 3 1 ∷ itemRow 0 0 1 ∷ itemRow 0 1 0 ∷ [];
-      room = record { subjects = 2; grants = 0; lines = 3; items = 4 };
+      capacities = record { subjects = 2; grants = 0; lines = 3; items = 4 };
     }
 
 -- tables, the added calls; asker, role and document; the set before and after

@@ -1,9 +1,9 @@
 // The calls under C's conventions: the functions of the static library, which include/dacm.h declares. Each passes its numbers on to the call of the same
 // meaning and has that call's contract.
 ghost use mathlib.Core.Path.{_≡_};
-ghost use Rattle.model.specs.Calls.Ask.{checkImage, operationSetOf, permissionSetOf, countLines};
+ghost use Rattle.model.specs.Calls.Ask.{checkImage, operationSetOf, permissionSetOf, listCount};
 ghost use Rattle.model.specs.Calls.Change.{defineSubject, setGrant, removeGrant, setLine, removeLine, createItem, bind, handOver};
-ghost use Rattle.model.specs.Questions.{ask, act, partStart, EditorAnswer};
+ghost use Rattle.model.specs.Questions.{ask, act, listStart, EditorAnswer};
 use model::Answer;
 use model::Item;
 use model::Privileges;
@@ -15,7 +15,7 @@ use model::Subject;
 pub extern "C" fn dacm_check(image: &[u8]) -> Answer
     ensures { λ r. ⌜ r ≡ ask (now (image .entry)) checkImage ⌝ }
 {
-    asking::sets::check_image(image)
+    asking::sets::check(image)
 }
 
 // The operation set of a subject under a role.
@@ -42,17 +42,17 @@ pub extern "C" fn dacm_permission_set(
 // The number of rows of a list.
 #[no_mangle]
 pub extern "C" fn dacm_list_count(image: &[u8], list: Item) -> Answer
-    ensures { λ r. ⌜ r ≡ ask (now (image .entry)) (countLines (list .0)) ⌝ }
+    ensures { λ r. ⌜ r ≡ ask (now (image .entry)) (listCount (list .0)) ⌝ }
 {
-    asking::lines::count_lines(image, list)
+    asking::lines::list_count(image, list)
 }
 
 // The byte of the image at which the rows of a list begin; 0 where it is refused or has none.
 #[no_mangle]
 pub extern "C" fn dacm_list_start(image: &[u8], list: Item) -> usize
-    ensures { λ r. ⌜ r ≡ partStart (now (image .entry)) (list .0) ⌝ }
+    ensures { λ r. ⌜ r ≡ listStart (now (image .entry)) (list .0) ⌝ }
 {
-    asking::lines::lines_start(image, list)
+    asking::lines::list_start(image, list)
 }
 
 // Some subject that may edit a list. Which of several is undecided.

@@ -11,14 +11,14 @@ use Rattle.fields.specs.Edits.{raised}
 -- Upwards. Of the n bytes of s that are to stand in p from at on, j stand there in q.
 pub record Copied (p : List ℕ) (at : ℕ) (s : List ℕ) (n : ℕ) (q : List ℕ) (j : ℕ) : Type 0 where
   pub made : q ≡ paste p at s j
-  pub room : at + n ≤ length p
+  pub fits : at + n ≤ length p
   pub enough : n ≤ length s
   pub within : j ≤ n
   pub same-length : length q ≡ length p
 
 module _ (p : List ℕ) (at : ℕ) (s : List ℕ) (n : ℕ) where
   pub copied-none : at + n ≤ length p → n ≤ length s → Copied p at s n p 0
-  copied-none room enough = record { made = paste-zero p at s; room = room; enough = enough; within = omega arith; same-length = refl }
+  copied-none fits enough = record { made = paste-zero p at s; fits = fits; enough = enough; within = omega arith; same-length = refl }
 
   pub copied-one : (q : List ℕ) (j v : ℕ) → Copied p at s n q j → j < n → v ≡ getD s j 0 → Copied p at s n (set q (at + j) v) (j + 1)
   copied-one q j v c more e =
@@ -26,7 +26,7 @@ module _ (p : List ℕ) (at : ℕ) (s : List ℕ) (n : ℕ) where
       let there : j < length s = omega arith in
       record {
         made = rw (c .made, e, paste-suc p at s j 0 here there, add-one);
-        room = c .room;
+        fits = c .fits;
         enough = c .enough;
         within = omega arith;
         same-length = length-set q (at + j) v ∙ c .same-length;
@@ -80,7 +80,7 @@ module _ (p : List ℕ) (at : ℕ) where
 -- Downwards. Of the bytes of p from low on those from i on stand n places further up in q.
 pub record Raised (p : List ℕ) (n low : ℕ) (q : List ℕ) (i : ℕ) : Type 0 where
   pub made : q ≡ raised p n i
-  pub room : i + n ≤ length p
+  pub fits : i + n ≤ length p
   pub within : low ≤ i
   pub same-length : length q ≡ length p
 
@@ -91,34 +91,34 @@ module _ (p : List ℕ) (n low : ℕ) where
       let l : length p - n ≤ length p = omega arith in
       record {
         made = rw (e, take-length, slice-empty, append-nil);
-        room = omega arith;
+        fits = omega arith;
         within = omega arith;
         same-length = refl;
       }
 
   raise : (j : ℕ) → suc j + n ≤ length p → set (raised p n (suc j)) (j + n) (getD (raised p n (suc j)) j 0) ≡ raised p n j
   raise j h =
-      let kept : List ℕ = take (length p - n) p in
+      let remaining : List ℕ = take (length p - n) p in
       let long : length (take (suc j + n) p) ≡ suc j + n = length-take-le (suc j + n) p h in
       let inside : j < length (take (suc j + n) p) = omega arith in
       let below : j < suc j + n = omega arith in
-      let front : getD (raised p n (suc j)) j 0 ≡ getD (take (suc j + n) p) j 0 = List·getD-append (take (suc j + n) p) (drop (suc j) kept) 0 j inside in
+      let front : getD (raised p n (suc j)) j 0 ≡ getD (take (suc j + n) p) j 0 = List·getD-append (take (suc j + n) p) (drop (suc j) remaining) 0 j inside in
       let read : getD (raised p n (suc j)) j 0 ≡ getD p j 0 = front ∙ getD-take (suc j + n) p j 0 below in
       let sum : suc j + n ≡ suc (j + n) = omega arith in
       let last : j + n < length p = omega arith in
       let head : j + n ≤ length p = omega arith in
       let rest : length p - n ≤ length p = omega arith in
       let within : j < length p - n = omega arith in
-      let e : length kept ≡ length p - n = length-take-le (length p - n) p rest in
-      let stays : j < length kept = omega arith in
+      let e : length remaining ≡ length p - n = length-take-le (length p - n) p rest in
+      let stays : j < length remaining = omega arith in
       let under : length (take (j + n) p) ≡ j + n = length-take-le (j + n) p head in
       rw (
         read,
         sum,
         take-suc p (j + n) 0 last,
         append-assoc,
-        set-at (take (j + n) p) (getD p (j + n) 0) (drop (suc j) kept) (getD p j 0) (j + n) under,
-        drop-cons kept j 0 stays,
+        set-at (take (j + n) p) (getD p (j + n) 0) (drop (suc j) remaining) (getD p j 0) (j + n) under,
+        drop-cons remaining j 0 stays,
         getD-take (length p - n) p j 0 within,
       )
 
@@ -129,7 +129,7 @@ module _ (p : List ℕ) (n low : ℕ) where
       let m : q ≡ raised p n (suc (i - 1)) = r .made ∙ ap (λ (k : ℕ). raised p n k) e in
       record {
         made = ap (λ (s : List ℕ). set s (i - 1 + n) (getD s (i - 1) 0)) m ∙ raise (i - 1) h;
-        room = omega arith;
+        fits = omega arith;
         within = omega arith;
         same-length = length-set q (i - 1 + n) (getD q (i - 1) 0) ∙ r .same-length;
       }

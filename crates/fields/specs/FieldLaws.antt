@@ -21,12 +21,12 @@ four-bytes s at h =
     let three : suc (suc (suc at)) ≡ at + 3 = omega arith in
     rw (drop-cons s at 0 a, drop-cons s (suc at) 0 b, drop-cons s (suc (suc at)) 0 c, drop-cons s (suc (suc (suc at))) 0 d, ← one, ← two, ← three)
 
-pub field-read : (s : List ℕ) (at r places : ℕ)
-    → places ≡ length s + 1 - 4
-    → at < places
+pub field-read : (s : List ℕ) (at r offset-count : ℕ)
+    → offset-count ≡ length s + 1 - 4
+    → at < offset-count
     → r ≡ value (getD s at 0 ∷ getD s (at + 1) 0 ∷ getD s (at + 2) 0 ∷ getD s (at + 3) 0 ∷ [])
     → r ≡ fieldAt 4 s at
 unfolding fieldAt
-field-read s at r places count inside e =
+field-read s at r offset-count count inside e =
     let in-s : at + 4 ≤ length s = omega arith in
-    rw (e, fit s at 4 places _ _ count inside, four-bytes s at in-s)
+    rw (e, fit s at 4 offset-count _ _ count inside, four-bytes s at in-s)

@@ -9,13 +9,13 @@ use lib.Dec.{leb}
 use lib.ListN.{length}
 
 -- A field read and an edit are of this form: one thing where the bytes are there, another where they are not.
-module _ {A : Type 0} (s : List ℕ) (at n places : ℕ) (new old : A) (e : places ≡ length s + 1 - n) where
-  pub unfit : places ≤ at → old ≡ cond (leb (at + n) (length s)) new old
+module _ {A : Type 0} (s : List ℕ) (at n offset-count : ℕ) (new old : A) (e : offset-count ≡ length s + 1 - n) where
+  pub unfit : offset-count ≤ at → old ≡ cond (leb (at + n) (length s)) new old
   unfit h =
       let out : length s < at + n = omega arith in
       rw (lt-leb (at + n) (length s) out)
 
-  pub fit : at < places → cond (leb (at + n) (length s)) new old ≡ new
+  pub fit : at < offset-count → cond (leb (at + n) (length s)) new old ≡ new
   fit h =
       let in-s : at + n ≤ length s = omega arith in
       rw (le-leb (at + n) (length s) in-s)

@@ -9,7 +9,7 @@ ghost use Rattle.fields.specs.Edits.{putBytes, insertBytes, removeBytes,
 pub fn replace_row(bytes: &mut [u8], at: usize, row: &[u8])
     ensures { λ _. ⌜ now (bytes .exit) ≡ putBytes (now (bytes .entry)) at (now (row .entry)) ⌝ }
 {
-    if places(bytes, row.len()) <= at {
+    if offset_count(bytes, row.len()) <= at {
         return;
     }
     copy_in(bytes, at, row);
@@ -19,7 +19,7 @@ pub fn replace_row(bytes: &mut [u8], at: usize, row: &[u8])
 pub fn insert_row(bytes: &mut [u8], at: usize, row: &[u8])
     ensures { λ _. ⌜ now (bytes .exit) ≡ insertBytes (now (bytes .entry)) at (now (row .entry)) ⌝ }
 {
-    if places(bytes, row.len()) <= at {
+    if offset_count(bytes, row.len()) <= at {
         return;
     }
     shift_up(bytes, at, row.len());
@@ -30,16 +30,16 @@ pub fn insert_row(bytes: &mut [u8], at: usize, row: &[u8])
 pub fn remove_row(bytes: &mut [u8], at: usize, size: usize)
     ensures { λ _. ⌜ now (bytes .exit) ≡ removeBytes (now (bytes .entry)) at size ⌝ }
 {
-    if places(bytes, size) <= at {
+    if offset_count(bytes, size) <= at {
         return;
     }
-    let kept = bytes.len() - size;
+    let remaining = bytes.len() - size;
     shift_down(bytes, at, size);
-    clear_from(bytes, kept);
+    clear_from(bytes, remaining);
 }
 
 // How many places there are for so many bytes: they fit at each place below this number, and at no other.
-pub fn places(bytes: &[u8], size: usize) -> usize
+pub fn offset_count(bytes: &[u8], size: usize) -> usize
     ensures { λ r. ⌜ r ≡ length (now (bytes .entry)) + 1 - size ⌝ }
 {
     if bytes.len() < size {

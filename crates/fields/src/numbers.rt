@@ -3,14 +3,14 @@ ghost use mathlib.Core.Path.{_≡_};
 ghost use mathlib.Core.List.{[], _∷_};
 ghost use Rattle.model.specs.Image.{value, bytesOf, fieldAt};
 ghost use Rattle.fields.specs.Edits.{putBytes};
-use crate::edits::places;
+use crate::edits::offset_count;
 use crate::edits::replace_row;
 
 // A field that runs past the end is 0.
 pub fn field(bytes: &[u8], at: usize) -> u32
     ensures { λ r. ⌜ r ≡ fieldAt 4 (now (bytes .entry)) at ⌝ }
 {
-    if places(bytes, 4) <= at {
+    if offset_count(bytes, 4) <= at {
         return 0;
     }
     let lowest = bytes[at];

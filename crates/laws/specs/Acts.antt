@@ -16,7 +16,7 @@ use Rattle.model.specs.declared.Opened.{Opened}
 use Rattle.model.specs.declared.Opened.the-variants.{With, Refused}
 use Rattle.model.specs.Lists.{Bytes}
 use Rattle.model.specs.Image.{Tables, tablesBy, tables, encode}
-use Rattle.model.specs.Calls.{Change, Handed, after, made}
+use Rattle.model.specs.Calls.{Change, Handed, after, changeResult}
 use Rattle.model.specs.Calls.Change.{defineSubject, setGrant, removeGrant, setLine, removeLine, createItem, bind, handOver}
 use Rattle.model.specs.Questions.{imageQuestions, questions, firstNo, answer, answered, check, opened, Accepted, act}
 use Rattle.laws.specs.Tests.{All-left, All-right}
@@ -103,22 +103,22 @@ module _ (img : List ℕ) (c : Change) (handed : Handed c) (accepted : Accepted 
 module _ (img : List ℕ) (o : Opened) (is : o ≡ opened img) (c : Change) (a : Answer) where
   pub act-image : (n : ℕ) → o ≡ Refused n → a ≡ answer n 0 → a ≡ act img c .answer
   unfolding act
-  act-image n case e = e ∙ answers-image img o is (λ t. questions t c) (λ t. made t c) n case
+  act-image n case e = e ∙ answers-image img o is (λ t. questions t c) (λ t. changeResult t c) n case
 
   module _ (lay : Layout) (case : o ≡ With lay) where
-    own : act img c .answer ≡ answered (firstNo (questions (tablesBy lay img) c)) (made (tablesBy lay img) c)
+    own : act img c .answer ≡ answered (firstNo (questions (tablesBy lay img) c)) (changeResult (tablesBy lay img) c)
     unfolding act
-    own = answers-own img o is (λ t. questions t c) (λ t. made t c) lay case
+    own = answers-own img o is (λ t. questions t c) (λ t. changeResult t c) lay case
 
     module _ (k : ℕ) (asked : k ≡ firstNo (questions (tablesBy lay img) c)) where
       pub act-no : a ≡ answer k 0 → (k ≡ 0 → ⊥) → a ≡ act img c .answer
       act-no e bad = e ∙ sym (own ∙ rw (← asked, ne-eqb k 0 bad))
 
-      pub act-done : (v : ℕ) → a ≡ answer 0 v → k ≡ 0 → v ≡ made (tablesBy lay img) c → a ≡ act img c .answer
+      pub act-done : (v : ℕ) → a ≡ answer 0 v → k ≡ 0 → v ≡ changeResult (tablesBy lay img) c → a ≡ act img c .answer
       act-done v e done made-is = e ∙ sym (own ∙ rw (← asked, done, ← made-is))
 
     -- where what was asked says that every question was answered yes
-    pub act-passed : (v : ℕ) → a ≡ answer 0 v → firstNo (questions (tablesBy lay img) c) ≡ 0 → v ≡ made (tablesBy lay img) c → a ≡ act img c .answer
+    pub act-passed : (v : ℕ) → a ≡ answer 0 v → firstNo (questions (tablesBy lay img) c) ≡ 0 → v ≡ changeResult (tablesBy lay img) c → a ≡ act img c .answer
     act-passed = act-done (firstNo (questions (tablesBy lay img) c)) refl
 
 -- Then the image, by the answer. Both are what a call promises.

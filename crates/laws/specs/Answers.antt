@@ -39,12 +39,12 @@ module _ (n : ℕ) (a : Bool) (qs : List Question) where
   unfolding firstNo
   tested-yes r h e = rw h e
 
-  module _ (t : Bool) (told : t ≡ a) where
+  module _ (t : Bool) (said : t ≡ a) where
     pub asked-no : not t ≡ true → n ≡ firstNo (n asks a ∷ qs)
-    asked-no h = tested-no (said-no a t told h)
+    asked-no h = tested-no (said-no a t said h)
 
     pub asked-yes : (r : ℕ) → not t ≡ false → r ≡ firstNo qs → r ≡ firstNo (n asks a ∷ qs)
-    asked-yes r h e = tested-yes r (said-yes a t told h) e
+    asked-yes r h e = tested-yes r (said-yes a t said h) e
 
 pub asked-all : 0 ≡ firstNo []
 unfolding firstNo

@@ -10,7 +10,7 @@ use Rattle.model.specs.declared.Layout.{Layout}
 use Rattle.model.specs.declared.Opened.{Opened}
 use Rattle.model.specs.declared.Opened.the-variants.{With, Refused}
 use Rattle.model.specs.Image.{Tables, tablesBy, tables}
-use Rattle.model.specs.Calls.{Ask, told}
+use Rattle.model.specs.Calls.{Ask, askResult}
 use Rattle.model.specs.Calls.Ask.{checkImage}
 use Rattle.model.specs.Questions.{Question, firstNo, imageQuestions, askQuestions, answer, answered, check, opened, ask}
 use Rattle.laws.specs.Answers.{first-left, first-right, asked-all}
@@ -45,21 +45,21 @@ module _ (img : List ℕ) (o : Opened) (is : o ≡ opened img) (qs : Tables → 
 module _ (img : List ℕ) (o : Opened) (is : o ≡ opened img) (q : Ask) (a : Answer) where
   pub ask-image : (n : ℕ) → o ≡ Refused n → a ≡ answer n 0 → a ≡ ask img q
   unfolding ask
-  ask-image n case e = e ∙ answers-image img o is (λ t. askQuestions t q) (λ t. told t q) n case
+  ask-image n case e = e ∙ answers-image img o is (λ t. askQuestions t q) (λ t. askResult t q) n case
 
   module _ (lay : Layout) (case : o ≡ With lay) where
-    own : ask img q ≡ answered (firstNo (askQuestions (tablesBy lay img) q)) (told (tablesBy lay img) q)
+    own : ask img q ≡ answered (firstNo (askQuestions (tablesBy lay img) q)) (askResult (tablesBy lay img) q)
     unfolding ask
-    own = answers-own img o is (λ t. askQuestions t q) (λ t. told t q) lay case
+    own = answers-own img o is (λ t. askQuestions t q) (λ t. askResult t q) lay case
 
     pub ask-no : (k : ℕ) → eqb k 0 ≡ false → k ≡ firstNo (askQuestions (tablesBy lay img) q) → a ≡ answer k 0 → a ≡ ask img q
     ask-no k some h e = e ∙ sym (own ∙ rw (← h, some))
 
-    pub ask-done : (v : ℕ) → 0 ≡ firstNo (askQuestions (tablesBy lay img) q) → v ≡ told (tablesBy lay img) q → a ≡ answer 0 v → a ≡ ask img q
+    pub ask-done : (v : ℕ) → 0 ≡ firstNo (askQuestions (tablesBy lay img) q) → v ≡ askResult (tablesBy lay img) q → a ≡ answer 0 v → a ≡ ask img q
     ask-done v h f e = e ∙ sym (own ∙ rw (← h, ← f))
 
 -- the check asks nothing more than the questions of the image
 module _ (img : List ℕ) (o : Opened) (is : o ≡ opened img) (a : Answer) where
   pub check-done : (lay : Layout) → o ≡ With lay → a ≡ answer 0 0 → a ≡ ask img checkImage
-  unfolding askQuestions told
+  unfolding askQuestions askResult
   check-done lay case e = ask-done img o is checkImage a lay case 0 asked-all refl e

@@ -9,7 +9,7 @@ use lib.ListN.{length, drop, take-append-drop}
 use lib.Seq.{drop-length}
 use Rattle.model.specs.declared.Table.{Table}
 use Rattle.model.specs.Lists.{All}
-use Rattle.model.specs.Image.{Format, Block, widthOf, layoutOf, tablesBy, tables, rowsIn, capacity, subjectFormat, grantFormat, lineFormat, itemFormat, headerWidths, headerSize, fieldsAt, rowBytes, headerOf, bodyOf, blocks, encode, tableLies}
+use Rattle.model.specs.Image.{Format, Block, widthOf, layoutOf, tablesBy, tables, rowsIn, capacity, subjectFormat, grantFormat, lineFormat, itemFormat, headerWidths, headerSize, fieldsAt, rowBytes, headerOf, bodyOf, blocks, encode, laidOut}
 use Rattle.model.specs.Questions.{imageQuestions, Accepted}
 use Rattle.laws.specs.WellFormed.{WellFormed, Passed, Fits, extents}
 use Rattle.laws.specs.Fields.{fields-back, bytes-drop}
@@ -32,18 +32,18 @@ module _ (img : List ℕ) (accepted : Accepted img) where
   header-back : headerOf headerSize (blocks (tables img)) ≡ fieldsAt headerWidths img 0
   unfolding tablesBy layoutOf
   header-back =
-      header-block (subjectFormat w) (subject-lawful w) (layoutOf img .subjects) img (facts .subjects-lie) (blocks-from 1) (facts .first)
-      (header-block (grantFormat w) (grant-lawful w) (layoutOf img .grants) img (facts .grants-lie) (blocks-from 2) refl
-      (header-block (lineFormat w) (line-lawful w) (layoutOf img .lines) img (facts .lines-lie) (blocks-from 3) refl
-      (header-block itemFormat item-lawful (layoutOf img .items) img (facts .items-lie) (blocks-from 4) refl refl)))
+      header-block (subjectFormat w) (subject-lawful w) (layoutOf img .subjects) img (facts .subjects-laid-out) (blocks-from 1) (facts .first)
+      (header-block (grantFormat w) (grant-lawful w) (layoutOf img .grants) img (facts .grants-laid-out) (blocks-from 2) refl
+      (header-block (lineFormat w) (line-lawful w) (layoutOf img .lines) img (facts .lines-laid-out) (blocks-from 3) refl
+      (header-block itemFormat item-lawful (layoutOf img .items) img (facts .items-laid-out) (blocks-from 4) refl refl)))
 
   body-back : bodyOf (blocks (tables img)) ≡ drop headerSize img
   unfolding tablesBy layoutOf
   body-back =
-      body-block (subjectFormat w) (subject-lawful w) (layoutOf img .subjects) img (facts .subjects-lie) (blocks-from 1) (accepted .bytes) (subjects-inside img facts) (facts .subjects-blank)
-      (body-block (grantFormat w) (grant-lawful w) (layoutOf img .grants) img (facts .grants-lie) (blocks-from 2) (accepted .bytes) (grants-inside img facts) (facts .grants-blank)
-      (body-block (lineFormat w) (line-lawful w) (layoutOf img .lines) img (facts .lines-lie) (blocks-from 3) (accepted .bytes) (lines-inside img facts) (facts .lines-blank)
-      (body-block itemFormat item-lawful (layoutOf img .items) img (facts .items-lie) (blocks-from 4) (accepted .bytes) (items-inside img facts) (facts .items-blank)
+      body-block (subjectFormat w) (subject-lawful w) (layoutOf img .subjects) img (facts .subjects-laid-out) (blocks-from 1) (accepted .bytes) (subjects-inside img facts) (facts .subjects-blank)
+      (body-block (grantFormat w) (grant-lawful w) (layoutOf img .grants) img (facts .grants-laid-out) (blocks-from 2) (accepted .bytes) (grants-inside img facts) (facts .grants-blank)
+      (body-block (lineFormat w) (line-lawful w) (layoutOf img .lines) img (facts .lines-laid-out) (blocks-from 3) (accepted .bytes) (lines-inside img facts) (facts .lines-blank)
+      (body-block itemFormat item-lawful (layoutOf img .items) img (facts .items-laid-out) (blocks-from 4) (accepted .bytes) (items-inside img facts) (facts .items-blank)
       (sym (drop-length img) ∙ ap (λ (n : ℕ). drop n img) (sym (facts .total))))))
       ∙ ap (λ (n : ℕ). drop n img) (sym (facts .first))
 
@@ -55,8 +55,8 @@ module _ (img : List ℕ) (accepted : Accepted img) where
       ∙ take-append-drop headerSize img
 
   -- its rows are within their rooms
-  in-room : {A : Type 0} (f : Format A) (t : Table) → Lawful f → T (tableLies f t) → length (rowsIn f t img) ≤ capacity f t
-  in-room f t law lies = rw (rows-count f t img) (rows-few f law t img lies)
+  in-capacity : {A : Type 0} (f : Format A) (t : Table) → Lawful f → T (laidOut f t) → length (rowsIn f t img) ≤ capacity f t
+  in-capacity f t law is-laid-out = rw (rows-count f t img) (rows-few f law t img is-laid-out)
 
   in-fields : {A : Type 0} (f : Format A) (t : Table) → Lawful f → All (Fits f) (rowsIn f t img)
   unfolding rowsIn
@@ -66,10 +66,10 @@ module _ (img : List ℕ) (accepted : Accepted img) where
   unfolding tablesBy layoutOf
   all-bytes =
       ap (λ (n : ℕ). n + extents (blocks (tables img))) (facts .first)
-      ∙ total-block (subjectFormat w) (subject-lawful w) (layoutOf img .subjects) img (facts .subjects-lie) (blocks-from 1)
-      (total-block (grantFormat w) (grant-lawful w) (layoutOf img .grants) img (facts .grants-lie) (blocks-from 2)
-      (total-block (lineFormat w) (line-lawful w) (layoutOf img .lines) img (facts .lines-lie) (blocks-from 3)
-      (total-block itemFormat item-lawful (layoutOf img .items) img (facts .items-lie) (blocks-from 4) (add-zero (layoutOf img .items .end) ∙ facts .total))))
+      ∙ total-block (subjectFormat w) (subject-lawful w) (layoutOf img .subjects) img (facts .subjects-laid-out) (blocks-from 1)
+      (total-block (grantFormat w) (grant-lawful w) (layoutOf img .grants) img (facts .grants-laid-out) (blocks-from 2)
+      (total-block (lineFormat w) (line-lawful w) (layoutOf img .lines) img (facts .lines-laid-out) (blocks-from 3)
+      (total-block itemFormat item-lawful (layoutOf img .items) img (facts .items-laid-out) (blocks-from 4) (add-zero (layoutOf img .items .end) ∙ facts .total))))
 
   pub tables-well-formed : WellFormed (tables img)
   unfolding tablesBy imageQuestions
@@ -77,10 +77,10 @@ module _ (img : List ℕ) (accepted : Accepted img) where
       let passed : Passed (imageQuestions img) = image-passed img (accepted .checked) in
       record {
         custodian-there = rw (rows-count (subjectFormat w) (layoutOf img .subjects) img) (facts .custodian-used);
-        subjects-room = in-room (subjectFormat w) (layoutOf img .subjects) (subject-lawful w) (facts .subjects-lie);
-        grants-room = in-room (grantFormat w) (layoutOf img .grants) (grant-lawful w) (facts .grants-lie);
-        lines-room = in-room (lineFormat w) (layoutOf img .lines) (line-lawful w) (facts .lines-lie);
-        items-room = in-room itemFormat (layoutOf img .items) item-lawful (facts .items-lie);
+        subjects-capacity = in-capacity (subjectFormat w) (layoutOf img .subjects) (subject-lawful w) (facts .subjects-laid-out);
+        grants-capacity = in-capacity (grantFormat w) (layoutOf img .grants) (grant-lawful w) (facts .grants-laid-out);
+        lines-capacity = in-capacity (lineFormat w) (layoutOf img .lines) (line-lawful w) (facts .lines-laid-out);
+        items-capacity = in-capacity itemFormat (layoutOf img .items) item-lawful (facts .items-laid-out);
         short = omega (arith, all-bytes, facts .short);
         subjects-fit = in-fields (subjectFormat w) (layoutOf img .subjects) (subject-lawful w);
         grants-fit = in-fields (grantFormat w) (layoutOf img .grants) (grant-lawful w);

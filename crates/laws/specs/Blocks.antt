@@ -10,7 +10,7 @@ use lib.ListN.{length, take, drop, replicate, length-append, length-replicate, l
 use lib.Seq.{take-at, drop-at, take-add, drop-drop, length-take-le}
 use Rattle.model.specs.declared.Table.{Table}
 use Rattle.model.specs.Lists.{All, Bytes, zeros}
-use Rattle.model.specs.Image.{Format, Block, size, rowsIn, capacity, joined, blockOf, headerOf, bodyOf, tableLies, unused}
+use Rattle.model.specs.Image.{Format, Block, size, rowsIn, capacity, joined, blockOf, headerOf, bodyOf, laidOut, unused}
 use Rattle.laws.specs.Tests.{_and_, true-T, and-l, and-r, yes-all, all-yes, All-append}
 use Rattle.laws.specs.WellFormed.{Fits, extents}
 use Rattle.laws.specs.Rows.{Lawful, rows-count, joined-length, joined-bytes, rows-there, rows-back}
@@ -40,79 +40,79 @@ seam s e img h =
     rw (← behind) (take-append-drop (e - s) (drop s img))
 
 module _ {A : Type 0} (f : Format A) where
-  pub block-used : (room : ℕ) (xs : List A) → blockOf f room xs .used ≡ length xs
+  pub block-used : (cap : ℕ) (xs : List A) → blockOf f cap xs .used ≡ length xs
   unfolding blockOf
-  block-used room xs = refl
+  block-used cap xs = refl
 
-  pub block-extent : (room : ℕ) (xs : List A) → blockOf f room xs .extent ≡ room * size f
+  pub block-extent : (cap : ℕ) (xs : List A) → blockOf f cap xs .extent ≡ cap * size f
   unfolding blockOf
-  block-extent room xs = refl
+  block-extent cap xs = refl
 
-  pub block-bytes : (room : ℕ) (xs : List A) → Bytes (blockOf f room xs .bytes)
+  pub block-bytes : (cap : ℕ) (xs : List A) → Bytes (blockOf f cap xs .bytes)
   unfolding blockOf
-  block-bytes room xs =
-      All-append (λ b. b < 256) (joined f xs) (replicate (room * size f - length xs * size f) 0) (joined-bytes f xs) (zero-bytes (room * size f - length xs * size f))
+  block-bytes cap xs =
+      All-append (λ b. b < 256) (joined f xs) (replicate (cap * size f - length xs * size f) 0) (joined-bytes f xs) (zero-bytes (cap * size f - length xs * size f))
 
   -- What the table t of an image holds where its bytes are the block of the rows xs.
-  pub record Holds (room : ℕ) (xs : List A) (t : Table) (img : List ℕ) : Type 0 where
+  pub record Holds (cap : ℕ) (xs : List A) (t : Table) (img : List ℕ) : Type 0 where
     pub rows-are : rowsIn f t img ≡ xs
-    pub room-is : capacity f t ≡ room
-    pub lies-right : T (tableLies f t)
+    pub capacity-is : capacity f t ≡ cap
+    pub laid-out : T (laidOut f t)
     pub unused-zero : T (zeros (unused f t img))
 
-  module _ (law : Lawful f) (room : ℕ) (xs : List A) (few : length xs ≤ room) where
-    rows-in-room : length xs * size f ≤ room * size f
-    rows-in-room = mul-le-mul-right (size f) few
+  module _ (law : Lawful f) (cap : ℕ) (xs : List A) (few : length xs ≤ cap) where
+    rows-in-capacity : length xs * size f ≤ cap * size f
+    rows-in-capacity = mul-le-mul-right (size f) few
 
-    pub block-length : length (blockOf f room xs .bytes) ≡ room * size f
+    pub block-length : length (blockOf f cap xs .bytes) ≡ cap * size f
     unfolding blockOf
     block-length =
-        let h : length xs * size f ≤ room * size f = rows-in-room in
+        let h : length xs * size f ≤ cap * size f = rows-in-capacity in
         rw (length-append, joined-length f law xs, length-replicate) (omega arith)
 
-    module _ (img : List ℕ) (at : ℕ) (rest : List ℕ) (stands : drop at img ≡ blockOf f room xs .bytes ++ rest) where
+    module _ (img : List ℕ) (at : ℕ) (rest : List ℕ) (stands : drop at img ≡ blockOf f cap xs .bytes ++ rest) where
       abbrev table : Table
-      table = record { used = length xs; start = at; end = at + room * size f }
+      table = record { used = length xs; start = at; end = at + cap * size f }
 
-      extent : at + room * size f - at ≡ room * size f
+      extent : at + cap * size f - at ≡ cap * size f
       extent = omega arith
 
       rows-stand : All (Fits f) xs → rowsIn f table img ≡ xs
       unfolding rowsIn blockOf
-      rows-stand fit = rw (stands, append-assoc) (rows-there f law xs (replicate (room * size f - length xs * size f) 0 ++ rest) fit)
+      rows-stand fit = rw (stands, append-assoc) (rows-there f law xs (replicate (cap * size f - length xs * size f) 0 ++ rest) fit)
 
-      room-stands : capacity f table ≡ room
-      room-stands = rw extent (mul-div-cancel room (law .wide))
+      capacity-stands : capacity f table ≡ cap
+      capacity-stands = rw extent (mul-div-cancel cap (law .wide))
 
-      lies : T (tableLies f table)
-      lies =
-          let ordered : at ≤ at + room * size f = omega arith in
-          let whole : (at + room * size f - at) % size f ≡ 0 = rw extent (mul-mod-left room (size f)) in
-          let enough : length xs ≤ capacity f table = rw room-stands few in
-          all-yes (leb at (at + room * size f) ∷ eqb ((at + room * size f - at) % size f) 0 ∷ leb (length xs) (capacity f table) ∷ [])
+      is-laid-out : T (laidOut f table)
+      is-laid-out =
+          let ordered : at ≤ at + cap * size f = omega arith in
+          let whole : (at + cap * size f - at) % size f ≡ 0 = rw extent (mul-mod-left cap (size f)) in
+          let enough : length xs ≤ capacity f table = rw capacity-stands few in
+          all-yes (leb at (at + cap * size f) ∷ eqb ((at + cap * size f - at) % size f) 0 ∷ leb (length xs) (capacity f table) ∷ [])
           (le→leb _ _ ordered and true-T _ (eq-eqb _ 0 whole) and le→leb _ _ enough and tt)
 
       -- behind the rows in use the block has zeros up to the table's end
       blank : T (zeros (unused f table img))
       unfolding blockOf
       blank =
-          let h : length xs * size f ≤ room * size f = rows-in-room in
-          let gap : ℕ = room * size f - length xs * size f in
-          let left : at + room * size f - (at + length xs * size f) ≡ gap = omega arith in
+          let h : length xs * size f ≤ cap * size f = rows-in-capacity in
+          let gap : ℕ = cap * size f - length xs * size f in
+          let left : at + cap * size f - (at + length xs * size f) ≡ gap = omega arith in
           let behind : drop (at + length xs * size f) img ≡ replicate gap 0 ++ rest =
           rw (← drop-drop (length xs * size f) at img, stands, append-assoc)
           (drop-at (joined f xs) (replicate gap 0 ++ rest) (length xs * size f) (joined-length f law xs)) in
           rw (left, behind, take-at (replicate gap 0) rest gap (length-replicate gap 0)) (are-zeros gap)
 
       pub holds-from : All (Fits f) xs
-          → Holds room xs (record { used = blockOf f room xs .used; start = at; end = at + blockOf f room xs .extent }) img
+          → Holds cap xs (record { used = blockOf f cap xs .used; start = at; end = at + blockOf f cap xs .extent }) img
       unfolding blockOf
-      holds-from fit = record { rows-are = rows-stand fit; room-is = room-stands; lies-right = lies; unused-zero = blank }
+      holds-from fit = record { rows-are = rows-stand fit; capacity-is = capacity-stands; laid-out = is-laid-out; unused-zero = blank }
 
   -- What a table that lies right holds makes its bytes again, and its fields of the header.
-  module _ (law : Lawful f) (t : Table) (img : List ℕ) (lies : T (tableLies f t)) where
+  module _ (law : Lawful f) (t : Table) (img : List ℕ) (is-laid-out : T (laidOut f t)) where
     tests : All T (leb (t .start) (t .end) ∷ eqb ((t .end - t .start) % size f) 0 ∷ leb (t .used) (capacity f t) ∷ [])
-    tests = yes-all (leb (t .start) (t .end) ∷ eqb ((t .end - t .start) % size f) 0 ∷ leb (t .used) (capacity f t) ∷ []) lies
+    tests = yes-all (leb (t .start) (t .end) ∷ eqb ((t .end - t .start) % size f) 0 ∷ leb (t .used) (capacity f t) ∷ []) is-laid-out
 
     pub starts-before-end : t .start ≤ t .end
     starts-before-end = leb→le _ _ (tests .0)
@@ -145,7 +145,7 @@ module _ {A : Type 0} (f : Format A) where
     unfolding blockOf
     block-back b inside blank =
         let first : t .start ≤ t .end = starts-before-end in
-        let in-room : t .used * size f ≤ t .end - t .start = rows-extent in
+        let in-capacity : t .used * size f ≤ t .end - t .start = rows-extent in
         let in-image : t .used * size f ≤ length (drop (t .start) img) = simp length-drop (omega arith) in
         let gap : ℕ = t .end - t .start - t .used * size f in
         let behind : drop (t .used * size f) (drop (t .start) img) ≡ drop (t .start + t .used * size f) img = drop-drop (t .used * size f) (t .start) img in

@@ -16,8 +16,8 @@ module _ {A O : Type 0} (yes : A → O) (no : ℕ → O) (m : ℕ) (x : A) where
   pub case-no : (n : ℕ) → eqb n 0 ≡ false → n ≡ m → no n ≡ cond (eqb m 0) (yes x) (no m)
   case-no n some-no e = rw (← e, some-no)
 
-  pub case-told : (n : ℕ) → (n ≡ 0 → ⊥) → n ≡ m → no n ≡ cond (eqb m 0) (yes x) (no m)
-  case-told n some-no e = case-no n (ne-eqb n 0 some-no) e
+  pub case-handed-on : (n : ℕ) → (n ≡ 0 → ⊥) → n ≡ m → no n ≡ cond (eqb m 0) (yes x) (no m)
+  case-handed-on n some-no e = case-no n (ne-eqb n 0 some-no) e
 
   pub case-yes : (y : A) → 0 ≡ m → y ≡ x → yes y ≡ cond (eqb m 0) (yes x) (no m)
   case-yes y all e = rw (← all, e)

@@ -64,8 +64,8 @@ bytes-mod (suc k) v =
     let power : 256 ^ suc k ≡ 256 ^ k * 256 = omega arith in
     let whole : v % 256 ^ suc k ≡ v / 256 % 256 ^ k * 256 + v % 256 = ap (λ (m : ℕ). v % m) power ∙ split in
     let byte : v % 256 < 256 = omega arith in
-    let parts = head-tail (v % 256 ^ suc k) (v / 256 % 256 ^ k) (v % 256) whole byte in
-    rw (parts .0, parts .1, bytes-mod k (v / 256))
+    let pieces = head-tail (v % 256 ^ suc k) (v / 256 % 256 ^ k) (v % 256) whole byte in
+    rw (pieces .0, pieces .1, bytes-mod k (v / 256))
 
 -- Parts of bytes.
 
@@ -105,8 +105,8 @@ field-drop (suc k) s d at = ⊎-elim inside past (le-or-lt (d + at + suc k) (len
   where
     inside : d + at + suc k ≤ length s → fieldAt (suc k) (drop d s) at ≡ fieldAt (suc k) s (d + at)
     inside h =
-        let room : at + suc k ≤ length (drop d s) = simp length-drop (omega arith) in
-        rw (field-in (suc k) (drop d s) at room, field-in (suc k) s (d + at) h, drop-drop)
+        let long-enough : at + suc k ≤ length (drop d s) = simp length-drop (omega arith) in
+        rw (field-in (suc k) (drop d s) at long-enough, field-in (suc k) s (d + at) h, drop-drop)
 
     past : length s < d + at + suc k → fieldAt (suc k) (drop d s) at ≡ fieldAt (suc k) s (d + at)
     past h =
@@ -118,8 +118,8 @@ field-below k s at b = ⊎-elim inside past (le-or-lt (at + k) (length s))
   where
     inside : at + k ≤ length s → fieldAt k s at < 256 ^ k
     inside h =
-        let room : k ≤ length (drop at s) = simp length-drop (omega arith) in
-        rw (field-in k s at h) (rw (length-take-le k (drop at s) room) at (value-below (take k (drop at s)) (bytes-take k (drop at s) (bytes-drop at s b))))
+        let long-enough : k ≤ length (drop at s) = simp length-drop (omega arith) in
+        rw (field-in k s at h) (rw (length-take-le k (drop at s) long-enough) at (value-below (take k (drop at s)) (bytes-take k (drop at s) (bytes-drop at s b))))
 
     past : length s < at + k → fieldAt k s at < 256 ^ k
     past h = rw (field-out k s at h) (power-positive k)
@@ -154,8 +154,8 @@ row-bytes (w ∷ ws) (v ∷ vs) = All-append (λ b. b < 256) (bytesOf w v) (rowB
 
 field-front : (w : ℕ) (p r : List ℕ) → length p ≡ w → fieldAt w (p ++ r) 0 ≡ value p
 field-front w p r e =
-    let room : 0 + w ≤ length (p ++ r) = simp length-append (omega arith) in
-    rw (field-in w (p ++ r) 0 room, take-at p r w e)
+    let long-enough : 0 + w ≤ length (p ++ r) = simp length-append (omega arith) in
+    rw (field-in w (p ++ r) 0 long-enough, take-at p r w e)
 
 fields-behind : (w : ℕ) (ws p r : List ℕ) → length p ≡ w → fieldsAt ws (p ++ r) (0 + w) ≡ fieldsAt ws r 0
 fields-behind w ws p r e =
@@ -178,10 +178,10 @@ fields-there (w ∷ ws) (v ∷ vs) z e h =
 pub fields-back : (ws s : List ℕ) → Bytes s → sum ws ≤ length s → rowBytes ws (fieldsAt ws s 0) ≡ take (sum ws) s
 fields-back [] s b h = refl
 fields-back (w ∷ ws) s b h =
-    let first-room : 0 + w ≤ length s = omega arith in
-    let rest-room : sum ws ≤ length (drop w s) = simp length-drop (omega arith) in
+    let first-long-enough : 0 + w ≤ length s = omega arith in
+    let rest-long-enough : sum ws ≤ length (drop w s) = simp length-drop (omega arith) in
     let w-long : length (take w s) ≡ w = length-take-le w s (omega arith) in
     let first : bytesOf w (fieldAt w s 0) ≡ take w s =
-    rw (field-in w s 0 first-room) (rw w-long at (bytes-value (take w s) (bytes-take w s b))) in
+    rw (field-in w s 0 first-long-enough) (rw w-long at (bytes-value (take w s) (bytes-take w s b))) in
     let moved : fieldsAt ws s (0 + w) ≡ fieldsAt ws (drop w s) 0 = rw (zero-add w, fields-drop ws s w 0, add-zero) in
-    rw (first, moved, fields-back ws (drop w s) (bytes-drop w s b) rest-room, take-add w (sum ws) s)
+    rw (first, moved, fields-back ws (drop w s) (bytes-drop w s b) rest-long-enough, take-add w (sum ws) s)

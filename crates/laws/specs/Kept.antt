@@ -19,7 +19,7 @@ use Rattle.model.specs.Sorted.{find, put, cut, ascending}
 use Rattle.model.specs.Tree.{inTree}
 use Rattle.model.specs.WhoAndWhat.{custodian, everything, has, within}
 use Rattle.model.specs.Image.{Tables, widthIn, subjectFormat, grantFormat, lineFormat, itemFormat, subjectRow, grantRow, lineRow, itemRow, noSubject, noItem, subjectIn, parentIn, privilegesIn, subjectUsed, itemIn, itemUsed, isList, noneOrList, subjectRules, grantRules, lineRules, itemRules, grantKey, lineKey, blockOf, subjectsHold, itemsHold, linesHold, grantsHold, withList, withOwner}
-use Rattle.model.specs.Calls.{Change, Handed, withSubjects, withGrants, withLines, withItems, setItem, stored, after}
+use Rattle.model.specs.Calls.{Change, Handed, withSubjects, withGrants, withLines, withItems, setItem, newPrivileges, after}
 use Rattle.model.specs.Calls.Change.{defineSubject, setGrant, removeGrant, setLine, removeLine, createItem, bind, handOver}
 use Rattle.model.specs.Questions.{questions}
 use Rattle.laws.specs.Tests.{and-i, and-l, and-r, or-l, or-r, or-cases, two, eq-or-ne, every-at, every-map, every-append, every-set, every-All, All-every, All-map, All-both, All-append, All-set, All-at}
@@ -29,24 +29,24 @@ use Rattle.laws.specs.Sets.{both-within, within-everything}
 use Rattle.laws.specs.WellFormed.{Fits, WellFormed, Passed}
 
 -- The rows of a sorted table: there is room for them, each is good, and they are ascending. So they are after a row is put or cut.
-record SortedRows {A : Type 0} (key : A → List ℕ) (Good : A → Type 0) (room : ℕ) (rows : List A) : Type 0 where
-  within-room : length rows ≤ room
+record SortedRows {A : Type 0} (key : A → List ℕ) (Good : A → Type 0) (cap : ℕ) (rows : List A) : Type 0 where
+  within-capacity : length rows ≤ cap
   all-good : All Good rows
   sorted : T (ascending key rows)
 
-module _ {A : Type 0} (key : A → List ℕ) (Good : A → Type 0) (room : ℕ) (rows : List A) (old : SortedRows key Good room rows) where
-  rows-put : (r : A) → Good r → T (isThere (find key (key r) rows) || ltb (length rows) room) → SortedRows key Good room (put key r rows)
+module _ {A : Type 0} (key : A → List ℕ) (Good : A → Type 0) (cap : ℕ) (rows : List A) (old : SortedRows key Good cap rows) where
+  rows-put : (r : A) → Good r → T (isThere (find key (key r) rows) || ltb (length rows) cap) → SortedRows key Good cap (put key r rows)
   rows-put r good free =
       record {
-        within-room = put-fits key r rows room (old .within-room) free;
+        within-capacity = put-fits key r rows cap (old .within-capacity) free;
         all-good = All-put key Good r rows good (old .all-good);
         sorted = ascending-put key r rows (old .sorted);
       }
 
-  rows-cut : (k : List ℕ) → SortedRows key Good room (cut key k rows)
+  rows-cut : (k : List ℕ) → SortedRows key Good cap (cut key k rows)
   rows-cut k =
       record {
-        within-room = omega (arith, length-cut-le key k rows, old .within-room);
+        within-capacity = omega (arith, length-cut-le key k rows, old .within-capacity);
         all-good = All-cut key Good k rows (old .all-good);
         sorted = ascending-cut key k rows (old .sorted);
       }
@@ -130,10 +130,10 @@ module _ (t : Tables) where
 -- One table anew.
 
 module _ (t : Tables) (w : WellFormed t) where
-  grant-rows : SortedRows grantKey (GoodGrant t) (t .room .grants) (t .grants)
+  grant-rows : SortedRows grantKey (GoodGrant t) (t .capacities .grants) (t .grants)
   grant-rows =
       record {
-        within-room = w .grants-room;
+        within-capacity = w .grants-capacity;
         all-good =
             All-both (Fits (grantFormat (widthIn t))) (λ g. T (grantRules (t .subjects) g)) (t .grants)
             (w .grants-fit)
@@ -141,10 +141,10 @@ module _ (t : Tables) (w : WellFormed t) where
         sorted = grants-ascending t (w .grants-hold);
       }
 
-  line-rows : SortedRows lineKey (GoodLine t) (t .room .lines) (t .lines)
+  line-rows : SortedRows lineKey (GoodLine t) (t .capacities .lines) (t .lines)
   line-rows =
       record {
-        within-room = w .lines-room;
+        within-capacity = w .lines-capacity;
         all-good =
             All-both (Fits (lineFormat (widthIn t))) (λ l. T (lineRules (t .subjects) (t .items) l)) (t .lines)
             (w .lines-fit)
@@ -152,15 +152,15 @@ module _ (t : Tables) (w : WellFormed t) where
         sorted = lines-ascending t (w .lines-hold);
       }
 
-  grants-anew : (rows : List GrantRow) → SortedRows grantKey (GoodGrant t) (t .room .grants) rows → WellFormed (withGrants t rows)
+  grants-anew : (rows : List GrantRow) → SortedRows grantKey (GoodGrant t) (t .capacities .grants) rows → WellFormed (withGrants t rows)
   unfolding blockOf subjectsHold itemsHold linesHold
   grants-anew rows new =
       record {
         custodian-there = w .custodian-there;
-        subjects-room = w .subjects-room;
-        grants-room = new .within-room;
-        lines-room = w .lines-room;
-        items-room = w .items-room;
+        subjects-capacity = w .subjects-capacity;
+        grants-capacity = new .within-capacity;
+        lines-capacity = w .lines-capacity;
+        items-capacity = w .items-capacity;
         short = w .short;
         subjects-fit = w .subjects-fit;
         grants-fit = All-map (λ g p. p .0) rows (new .all-good);
@@ -174,23 +174,23 @@ module _ (t : Tables) (w : WellFormed t) where
 
   grant-put : (g : GrantRow)
       → GoodGrant t g
-      → T (isThere (find grantKey (grantKey g) (t .grants)) || ltb (length (t .grants)) (t .room .grants))
+      → T (isThere (find grantKey (grantKey g) (t .grants)) || ltb (length (t .grants)) (t .capacities .grants))
       → WellFormed (withGrants t (put grantKey g (t .grants)))
   grant-put g good free =
-      grants-anew (put grantKey g (t .grants)) (rows-put grantKey (GoodGrant t) (t .room .grants) (t .grants) grant-rows g good free)
+      grants-anew (put grantKey g (t .grants)) (rows-put grantKey (GoodGrant t) (t .capacities .grants) (t .grants) grant-rows g good free)
 
   grant-cut : (k : List ℕ) → WellFormed (withGrants t (cut grantKey k (t .grants)))
-  grant-cut k = grants-anew (cut grantKey k (t .grants)) (rows-cut grantKey (GoodGrant t) (t .room .grants) (t .grants) grant-rows k)
+  grant-cut k = grants-anew (cut grantKey k (t .grants)) (rows-cut grantKey (GoodGrant t) (t .capacities .grants) (t .grants) grant-rows k)
 
-  lines-anew : (rows : List LineRow) → SortedRows lineKey (GoodLine t) (t .room .lines) rows → WellFormed (withLines t rows)
+  lines-anew : (rows : List LineRow) → SortedRows lineKey (GoodLine t) (t .capacities .lines) rows → WellFormed (withLines t rows)
   unfolding blockOf subjectsHold itemsHold grantsHold
   lines-anew rows new =
       record {
         custodian-there = w .custodian-there;
-        subjects-room = w .subjects-room;
-        grants-room = w .grants-room;
-        lines-room = new .within-room;
-        items-room = w .items-room;
+        subjects-capacity = w .subjects-capacity;
+        grants-capacity = w .grants-capacity;
+        lines-capacity = new .within-capacity;
+        items-capacity = w .items-capacity;
         short = w .short;
         subjects-fit = w .subjects-fit;
         grants-fit = w .grants-fit;
@@ -204,31 +204,31 @@ module _ (t : Tables) (w : WellFormed t) where
 
   line-put : (l : LineRow)
       → GoodLine t l
-      → T (isThere (find lineKey (lineKey l) (t .lines)) || ltb (length (t .lines)) (t .room .lines))
+      → T (isThere (find lineKey (lineKey l) (t .lines)) || ltb (length (t .lines)) (t .capacities .lines))
       → WellFormed (withLines t (put lineKey l (t .lines)))
   line-put l good free =
-      lines-anew (put lineKey l (t .lines)) (rows-put lineKey (GoodLine t) (t .room .lines) (t .lines) line-rows l good free)
+      lines-anew (put lineKey l (t .lines)) (rows-put lineKey (GoodLine t) (t .capacities .lines) (t .lines) line-rows l good free)
 
   line-cut : (k : List ℕ) → WellFormed (withLines t (cut lineKey k (t .lines)))
-  line-cut k = lines-anew (cut lineKey k (t .lines)) (rows-cut lineKey (GoodLine t) (t .room .lines) (t .lines) line-rows k)
+  line-cut k = lines-anew (cut lineKey k (t .lines)) (rows-cut lineKey (GoodLine t) (t .capacities .lines) (t .lines) line-rows k)
 
   -- the new items may be held to their rules by the old ones: an access list stays one
   items-anew : (rows : List ItemRow)
       → length (t .items) ≤ length rows
-      → length rows ≤ t .room .items
+      → length rows ≤ t .capacities .items
       → ((i : ℕ) → T (itemUsed (t .items) i) → itemIn rows i .flags ≡ itemIn (t .items) i .flags)
       → All (Fits itemFormat) rows
       → T (everyNumbered (λ n. itemRules (t .subjects) (t .items) (suc n)) rows)
       → WellFormed (withItems t rows)
   unfolding blockOf subjectsHold itemsHold grantsHold
-  items-anew rows more room same fit rules =
+  items-anew rows more enough same fit rules =
       let lists : (a : ℕ) → T (isList (t .items) a) → T (isList rows a) = list-kept (t .items) rows more same in
       record {
         custodian-there = w .custodian-there;
-        subjects-room = w .subjects-room;
-        grants-room = w .grants-room;
-        lines-room = w .lines-room;
-        items-room = room;
+        subjects-capacity = w .subjects-capacity;
+        grants-capacity = w .grants-capacity;
+        lines-capacity = w .lines-capacity;
+        items-capacity = enough;
         short = w .short;
         subjects-fit = w .subjects-fit;
         grants-fit = w .grants-fit;
@@ -247,11 +247,11 @@ module _ (t : Tables) (w : WellFormed t) where
       }
 
   item-more : (r : ItemRow)
-      → length (t .items) < t .room .items
+      → length (t .items) < t .capacities .items
       → GoodItem t (suc (length (t .items))) r
       → WellFormed (withItems t (t .items ++ r ∷ []))
   unfolding itemsHold
-  item-more r room good =
+  item-more r enough good =
       items-anew (t .items ++ r ∷ [])
       (rw length-append (omega arith))
       (rw length-append (omega arith))
@@ -270,7 +270,7 @@ module _ (t : Tables) (w : WellFormed t) where
   item-anew (suc n) r used flags good =
       items-anew (set (t .items) n r)
       (rw length-set (omega arith))
-      (rw length-set (w .items-room))
+      (rw length-set (w .items-capacity))
       (λ i u. same i (eq-or-ne i (suc n)))
       (All-set (Fits itemFormat) (t .items) n r (w .items-fit) (good .0))
       (every-set (λ k. itemRules (t .subjects) (t .items) (suc k)) (t .items) n r (w .items-hold) (good .1))
@@ -323,31 +323,31 @@ module _ (t : Tables) (w : WellFormed t) where
       eqb→eq (privilegesIn (t .subjects) custodian) (everything (widthIn t)) (search (and-l, and-r))
 
   -- what define subject stores lies within the caller's privileges, and is no more than was given
-  stored-within : (c v : ℕ) → v < 256 ^ widthIn t → T (within (stored t c v) (privilegesIn (t .subjects) c))
-  stored-within c v h = go (two (eqb c custodian))
+  new-privileges-within : (c v : ℕ) → v < 256 ^ widthIn t → T (within (newPrivileges t c v) (privilegesIn (t .subjects) c))
+  new-privileges-within c v h = go (two (eqb c custodian))
     where
-      go : (eqb c custodian ≡ true) ⊎ (eqb c custodian ≡ false) → T (within (stored t c v) (privilegesIn (t .subjects) c))
+      go : (eqb c custodian ≡ true) ⊎ (eqb c custodian ≡ false) → T (within (newPrivileges t c v) (privilegesIn (t .subjects) c))
       go (inl e) = rw (e, eqb-true c custodian e, custodian-has) (within-everything (widthIn t) v h)
       go (inr e) = rw e (both-within v (privilegesIn (t .subjects) c))
 
-  stored-le : (c v : ℕ) → stored t c v ≤ v
-  stored-le c v = elim (two (eqb c custodian)) [ inl e ↦ rw e (omega arith) | inr e ↦ rw e (and-le-l v (privilegesIn (t .subjects) c)) ]
+  new-privileges-le : (c v : ℕ) → newPrivileges t c v ≤ v
+  new-privileges-le c v = elim (two (eqb c custodian)) [ inl e ↦ rw e (omega arith) | inr e ↦ rw e (and-le-l v (privilegesIn (t .subjects) c)) ]
 
   subject-more : (r : SubjectRow)
-      → length (t .subjects) < t .room .subjects
+      → length (t .subjects) < t .capacities .subjects
       → Fits (subjectFormat (widthIn t)) r
       → r .parent .0 < length (t .subjects)
       → r .creator .0 < length (t .subjects)
       → T (within (r .privileges) (privilegesIn (t .subjects) (r .creator .0)))
       → WellFormed (withSubjects t (t .subjects ++ r ∷ []))
   unfolding blockOf subjectsHold itemsHold
-  subject-more r room fit parent creator privileges =
+  subject-more r enough fit parent creator privileges =
       record {
         custodian-there = rw length-append (omega arith);
-        subjects-room = rw length-append (omega arith);
-        grants-room = w .grants-room;
-        lines-room = w .lines-room;
-        items-room = w .items-room;
+        subjects-capacity = rw length-append (omega arith);
+        grants-capacity = w .grants-capacity;
+        lines-capacity = w .lines-capacity;
+        items-capacity = w .items-capacity;
         short = w .short;
         subjects-fit = All-append (Fits (subjectFormat (widthIn t))) (t .subjects) (r ∷ []) (w .subjects-fit) (fit, tt);
         grants-fit = w .grants-fit;
@@ -385,12 +385,12 @@ module _ (t : Tables) (w : WellFormed t) where
 pub well-formed-after : (t : Tables) (c : Change) → Handed c → WellFormed t → Passed (questions t c) → WellFormed (after t c)
 unfolding questions after
 well-formed-after t (defineSubject c r p v) h w q =
-    subject-more t w (subjectRow p (stored t c v) c)
+    subject-more t w (subjectRow p (newPrivileges t c v) c)
     (search ltb→lt)
-    (omega (arith, stored-le t w c v))
+    (omega (arith, new-privileges-le t w c v))
     (search ltb→lt)
     (search ltb→lt)
-    (stored-within t w c v (search ltb→lt))
+    (new-privileges-within t w c v (search ltb→lt))
 well-formed-after t (setGrant c s r d v) h w q = grant-put t w (grantRow s r c d v) (omega arith, search and-i depth 12) (search q)
 well-formed-after t (removeGrant c s r) h w q = grant-cut t w (s ∷ r ∷ [])
 well-formed-after t (setLine c r a k s v) h w q = line-put t w (lineRow a k s v) (omega arith, search and-i depth 12) (search q)

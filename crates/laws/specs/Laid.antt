@@ -6,7 +6,7 @@ use native.Mathlib.Omega.{arith}
 use lib.Dec.{T, leb, leb→le, eqb→eq}
 use lib.ListN.{length}
 use Rattle.model.specs.Lists.{zeros}
-use Rattle.model.specs.Image.{shortestImage, longestImage, widthOf, layoutOf, subjectFormat, grantFormat, lineFormat, itemFormat, headerSize, tableLies, unused, headerRules, tableRules, layoutRules, unusedRules}
+use Rattle.model.specs.Image.{shortestImage, longestImage, widthOf, layoutOf, subjectFormat, grantFormat, lineFormat, itemFormat, headerSize, laidOut, unused, headerRules, tableRules, layoutRules, unusedRules}
 use Rattle.model.specs.Questions.{imageQuestions, check}
 use Rattle.laws.specs.Tests.{yes-all, and-l, and-r}
 use Rattle.laws.specs.WellFormed.{Passed}
@@ -21,10 +21,10 @@ pub record Laid (img : List ℕ) : Type 0 where
   pub total : layoutOf img .items .end ≡ length img
   pub first : headerSize ≡ layoutOf img .subjects .start
   pub custodian-used : 1 ≤ layoutOf img .subjects .used
-  pub subjects-lie : T (tableLies (subjectFormat (widthOf (layoutOf img))) (layoutOf img .subjects))
-  pub grants-lie : T (tableLies (grantFormat (widthOf (layoutOf img))) (layoutOf img .grants))
-  pub lines-lie : T (tableLies (lineFormat (widthOf (layoutOf img))) (layoutOf img .lines))
-  pub items-lie : T (tableLies itemFormat (layoutOf img .items))
+  pub subjects-laid-out : T (laidOut (subjectFormat (widthOf (layoutOf img))) (layoutOf img .subjects))
+  pub grants-laid-out : T (laidOut (grantFormat (widthOf (layoutOf img))) (layoutOf img .grants))
+  pub lines-laid-out : T (laidOut (lineFormat (widthOf (layoutOf img))) (layoutOf img .lines))
+  pub items-laid-out : T (laidOut itemFormat (layoutOf img .items))
   pub subjects-blank : T (zeros (unused (subjectFormat (widthOf (layoutOf img))) (layoutOf img .subjects) img))
   pub grants-blank : T (zeros (unused (grantFormat (widthOf (layoutOf img))) (layoutOf img .grants) img))
   pub lines-blank : T (zeros (unused (lineFormat (widthOf (layoutOf img))) (layoutOf img .lines) img))
@@ -36,18 +36,18 @@ laid img e =
     let passed : Passed (imageQuestions img) = image-passed img e in
     let both = yes-all (layoutRules (layoutOf img) img) (passed .1 .0) in
     let header = yes-all (headerRules (layoutOf img) img) (both .0) in
-    let lie = yes-all (tableRules (layoutOf img)) (both .1 .0) in
+    let rules = yes-all (tableRules (layoutOf img)) (both .1 .0) in
     let blank = yes-all (unusedRules (layoutOf img) img) (passed .1 .1 .1 .1 .1 .1 .0) in
     record {
       long = leb→le shortestImage (length img) (and-l (leb shortestImage (length img)) (leb (length img) longestImage) (passed .0));
       short = leb→le (length img) longestImage (and-r (leb shortestImage (length img)) (leb (length img) longestImage) (passed .0));
       total = eqb→eq _ _ (header .0);
       first = sym (eqb→eq _ _ (header .1 .0));
-      subjects-lie = lie .0;
-      grants-lie = lie .1 .0;
-      lines-lie = lie .1 .1 .0;
-      items-lie = lie .1 .1 .1 .0;
-      custodian-used = leb→le _ _ (lie .1 .1 .1 .1 .0);
+      subjects-laid-out = rules .0;
+      grants-laid-out = rules .1 .0;
+      lines-laid-out = rules .1 .1 .0;
+      items-laid-out = rules .1 .1 .1 .0;
+      custodian-used = leb→le _ _ (rules .1 .1 .1 .1 .0);
       subjects-blank = blank .0;
       grants-blank = blank .1 .0;
       lines-blank = blank .1 .1 .0;
@@ -64,12 +64,12 @@ module _ (img : List ℕ) (facts : Laid img) where
 
   pub lines-inside : layoutOf img .lines .end ≤ length img
   unfolding layoutOf
-  lines-inside = omega (arith, items-inside, starts-before-end itemFormat item-lawful (layoutOf img .items) img (facts .items-lie))
+  lines-inside = omega (arith, items-inside, starts-before-end itemFormat item-lawful (layoutOf img .items) img (facts .items-laid-out))
 
   pub grants-inside : layoutOf img .grants .end ≤ length img
   unfolding layoutOf
-  grants-inside = omega (arith, lines-inside, starts-before-end (lineFormat w) (line-lawful w) (layoutOf img .lines) img (facts .lines-lie))
+  grants-inside = omega (arith, lines-inside, starts-before-end (lineFormat w) (line-lawful w) (layoutOf img .lines) img (facts .lines-laid-out))
 
   pub subjects-inside : layoutOf img .subjects .end ≤ length img
   unfolding layoutOf
-  subjects-inside = omega (arith, grants-inside, starts-before-end (grantFormat w) (grant-lawful w) (layoutOf img .grants) img (facts .grants-lie))
+  subjects-inside = omega (arith, grants-inside, starts-before-end (grantFormat w) (grant-lawful w) (layoutOf img .grants) img (facts .grants-laid-out))

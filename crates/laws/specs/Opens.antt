@@ -8,7 +8,7 @@ use Rattle.model.specs.declared.Opened.{Opened}
 use Rattle.model.specs.declared.Opened.the-variants.{With, Refused}
 use Rattle.model.specs.Image.{layoutOf}
 use Rattle.model.specs.Questions.{check, opened, refusalOf}
-use Rattle.laws.specs.Cases.{Apart, case-told, case-yes, case-number, no-says, yes-says}
+use Rattle.laws.specs.Cases.{Apart, case-handed-on, case-yes, case-number, no-says, yes-says}
 
 cases-apart : Apart With Refused
 cases-apart = record { differ = λ x n e. false≢true cc; one-yes = λ x y e. cc; one-no = λ m n e. cc }
@@ -16,7 +16,7 @@ cases-apart = record { differ = λ x n e. false≢true cc; one-yes = λ x y e. c
 module _ (img : List ℕ) where
   pub opened-no : (n : ℕ) → (n ≡ 0 → ⊥) → n ≡ check img → Refused n ≡ opened img
   unfolding opened
-  opened-no n some-no e = case-told With Refused (check img) (layoutOf img) n some-no e
+  opened-no n some-no e = case-handed-on With Refused (check img) (layoutOf img) n some-no e
 
   pub opened-yes : (lay : Layout) → lay ≡ layoutOf img → 0 ≡ check img → With lay ≡ opened img
   unfolding opened

@@ -62,8 +62,8 @@ module _ {A : Type 0} (f : Format A) where
   pub whole-row : (s : List ℕ) → size f ≤ length s → firstRow f s ≡ f .row (fieldsAt (f .widths) s 0)
   whole-row s h = ap (λ (b : Bool). f .row (cond b (fieldsAt (f .widths) s 0) (replicate (length (f .widths)) 0))) (le-leb (size f) (length s) h)
 
-  pub part-row : (s : List ℕ) → length s < size f → firstRow f s ≡ f .row (replicate (length (f .widths)) 0)
-  part-row s h = ap (λ (b : Bool). f .row (cond b (fieldsAt (f .widths) s 0) (replicate (length (f .widths)) 0))) (lt-leb (size f) (length s) h)
+  pub short-row : (s : List ℕ) → length s < size f → firstRow f s ≡ f .row (replicate (length (f .widths)) 0)
+  short-row s h = ap (λ (b : Bool). f .row (cond b (fieldsAt (f .widths) s 0) (replicate (length (f .widths)) 0))) (lt-leb (size f) (length s) h)
 
   -- Rows to bytes and back.
 
@@ -95,14 +95,14 @@ module _ {A : Type 0} (f : Format A) where
     rows-back zero s b h = rw (zero-mul (size f))
     rows-back (suc n) s b h =
         let whole : size f + n * size f ≤ length s = rw (suc-mul n (size f), add-comm (n * size f) (size f)) at h in
-        let first-room : size f ≤ length s = omega arith in
-        let rest-room : n * size f ≤ length (drop (size f) s) = simp length-drop (omega arith) in
+        let first-long-enough : size f ≤ length s = omega arith in
+        let rest-long-enough : n * size f ≤ length (drop (size f) s) = simp length-drop (omega arith) in
         let numbers : f .numbers (firstRow f s) ≡ fieldsAt (f .widths) s 0 =
-        ap (f .numbers) (whole-row s first-room) ∙ law .back (fieldsAt (f .widths) s 0) (fields-count (f .widths) s 0) in
+        ap (f .numbers) (whole-row s first-long-enough) ∙ law .back (fieldsAt (f .widths) s 0) (fields-count (f .widths) s 0) in
         rw (
           numbers,
-          fields-back (f .widths) s b first-room,
-          rows-back n (drop (size f) s) (bytes-drop (size f) s b) rest-room,
+          fields-back (f .widths) s b first-long-enough,
+          rows-back n (drop (size f) s) (bytes-drop (size f) s b) rest-long-enough,
           suc-mul n (size f),
           add-comm (n * size f) (size f),
           take-add (size f) (n * size f) s,

@@ -63,5 +63,5 @@ within-everything w v h =
     true-T (within v (everything w)) (eq-eqb (v ∩ everything w) v whole)
 
 -- a position and a set that were told by callees
-pub has-told : (n m a b : ℕ) (r : Bool) → n ≡ m → a ≡ b → r ≡ has n a → r ≡ has m b
-has-told n m a b r position set e = rw (← position, ← set) e
+pub has-same : (n m a b : ℕ) (r : Bool) → n ≡ m → a ≡ b → r ≡ has n a → r ≡ has m b
+has-same n m a b r position set e = rw (← position, ← set) e

@@ -13,7 +13,7 @@ use borrow.Author.Tests.{lt-ltb, le-ltb, eq-eqb, ne-eqb}
 use lib.Dec.{T, ltb, ltb→lt, leb·suc-suc}
 use lib.ListN.{length, getD, take, drop, length-append, length-take, length-drop}
 use Rattle.model.specs.Lists.{All, select, isThere}
-use Rattle.model.specs.Sorted.{before, same, find, place, put, cut, ascending}
+use Rattle.model.specs.Sorted.{before, same, find, insertionIndex, put, cut, ascending}
 use Rattle.laws.specs.Tests.{T-true, true-T, and-i, and-l, and-r, lt-eq-gt, All-map}
 
 -- The order of keys.
@@ -247,37 +247,37 @@ module _ {A : Type 0} (key : A → List ℕ) where
   select-above k [] a = refl
   select-above k (x ∷ xs) a = rw (before-not-after k (key x) (a .0)) (select-above k xs (a .1))
 
-  pub place-counts : (k : List ℕ) (xs : List A) → T (ascending key xs) → place key k xs ≡ length (select (λ x. before (key x) k) xs)
-  unfolding place
-  place-counts k [] t = refl
-  place-counts k (x ∷ xs) t =
+  pub index-counts : (k : List ℕ) (xs : List A) → T (ascending key xs) → insertionIndex key k xs ≡ length (select (λ x. before (key x) k) xs)
+  unfolding insertionIndex
+  index-counts k [] t = refl
+  index-counts k (x ∷ xs) t =
       let above : Above (key x) xs = ascending-above x xs t in
       elim (order (key x) k) [
-        | lower e f g ↦ rw e (ap suc (place-counts k xs (ascending-tail x xs t)))
+        | lower e f g ↦ rw e (ap suc (index-counts k xs (ascending-tail x xs t)))
         | equal e f g ↦ rw (f, select-above k xs (rw e at above))
         | higher e f g ↦ rw (f, select-above k xs (above-lower k (key x) xs e above))
       ]
 
-  pub place-le : (k : List ℕ) (xs : List A) → place key k xs ≤ length xs
-  unfolding place
-  place-le k [] = omega arith
-  place-le k (x ∷ xs) =
-      let ih : place key k xs ≤ length xs = place-le k xs in
-      elim (before (key x) k) as (λ b. cond b (suc (place key k xs)) 0 ≤ suc (length xs)) [ true ↦ omega arith | false ↦ omega arith ]
+  pub index-le : (k : List ℕ) (xs : List A) → insertionIndex key k xs ≤ length xs
+  unfolding insertionIndex
+  index-le k [] = omega arith
+  index-le k (x ∷ xs) =
+      let ih : insertionIndex key k xs ≤ length xs = index-le k xs in
+      elim (before (key x) k) as (λ b. cond b (suc (insertionIndex key k xs)) 0 ≤ suc (length xs)) [ true ↦ omega arith | false ↦ omega arith ]
 
   -- a found row is the one at the place
-  pub found-place : (k : List ℕ) (xs : List A) (r : A) → find key k xs ≡ some r → place key k xs < length xs
-  unfolding find place
-  found-place k [] r h = absurd (Option·none-ne-some r h)
-  found-place k (x ∷ xs) r h =
+  pub found-index : (k : List ℕ) (xs : List A) (r : A) → find key k xs ≡ some r → insertionIndex key k xs < length xs
+  unfolding find insertionIndex
+  found-index k [] r h = absurd (Option·none-ne-some r h)
+  found-index k (x ∷ xs) r h =
       elim (order (key x) k) [
-        | lower e f g ↦ rw e (suc-le-suc-iff .1 (found-place k xs r (rw e at h)))
+        | lower e f g ↦ rw e (suc-le-suc-iff .1 (found-index k xs r (rw e at h)))
         | equal e f g ↦ rw f (omega arith)
         | higher e f g ↦ absurd (Option·none-ne-some r (rw (f, g) at h))
       ]
 
-  pub found-at : (k : List ℕ) (xs : List A) (r d : A) → find key k xs ≡ some r → getD xs (place key k xs) d ≡ r
-  unfolding find place
+  pub found-at : (k : List ℕ) (xs : List A) (r d : A) → find key k xs ≡ some r → getD xs (insertionIndex key k xs) d ≡ r
+  unfolding find insertionIndex
   found-at k [] r d h = cc
   found-at k (x ∷ xs) r d h =
       elim (order (key x) k) [
@@ -287,14 +287,14 @@ module _ {A : Type 0} (key : A → List ℕ) where
       ]
 
   -- so the search is a look at the place
-  pub find-by-place : (k : List ℕ) (xs : List A) (d : A)
+  pub find-by-index : (k : List ℕ) (xs : List A) (d : A)
       → find key k xs
-      ≡ cond (ltb (place key k xs) (length xs) && same (key (getD xs (place key k xs) d)) k) (some (getD xs (place key k xs) d)) none
-  unfolding find place
-  find-by-place k [] d = refl
-  find-by-place k (x ∷ xs) d =
+      ≡ cond (ltb (insertionIndex key k xs) (length xs) && same (key (getD xs (insertionIndex key k xs) d)) k) (some (getD xs (insertionIndex key k xs) d)) none
+  unfolding find insertionIndex
+  find-by-index k [] d = refl
+  find-by-index k (x ∷ xs) d =
       elim (order (key x) k) [
-        | lower e f g ↦ rw (e, leb·suc-suc) (find-by-place k xs d)
+        | lower e f g ↦ rw (e, leb·suc-suc) (find-by-index k xs d)
         | equal e f g ↦ rw (f, lt-ltb 0 (suc (length xs)) (omega arith), g)
         | higher e f g ↦ rw (f, lt-ltb 0 (suc (length xs)) (omega arith), g)
       ]
@@ -302,8 +302,8 @@ module _ {A : Type 0} (key : A → List ℕ) where
   -- Putting and cutting at the place.
 
   pub put-new : (r : A) (xs : List A) → find key (key r) xs ≡ none
-      → put key r xs ≡ take (place key (key r) xs) xs ++ r ∷ drop (place key (key r) xs) xs
-  unfolding find place put
+      → put key r xs ≡ take (insertionIndex key (key r) xs) xs ++ r ∷ drop (insertionIndex key (key r) xs) xs
+  unfolding find insertionIndex put
   put-new r [] h = refl
   put-new r (x ∷ xs) h =
       elim (order (key x) (key r)) [
@@ -313,8 +313,8 @@ module _ {A : Type 0} (key : A → List ℕ) where
       ]
 
   pub put-over : (r : A) (xs : List A) (y : A) → find key (key r) xs ≡ some y
-      → put key r xs ≡ take (place key (key r) xs) xs ++ r ∷ drop (suc (place key (key r) xs)) xs
-  unfolding find place put
+      → put key r xs ≡ take (insertionIndex key (key r) xs) xs ++ r ∷ drop (suc (insertionIndex key (key r) xs)) xs
+  unfolding find insertionIndex put
   put-over r [] y h = refl
   put-over r (x ∷ xs) y h =
       elim (order (key x) (key r)) [
@@ -324,8 +324,8 @@ module _ {A : Type 0} (key : A → List ℕ) where
       ]
 
   pub cut-found : (k : List ℕ) (xs : List A) (y : A) → find key k xs ≡ some y
-      → cut key k xs ≡ take (place key k xs) xs ++ drop (suc (place key k xs)) xs
-  unfolding find place cut
+      → cut key k xs ≡ take (insertionIndex key k xs) xs ++ drop (suc (insertionIndex key k xs)) xs
+  unfolding find insertionIndex cut
   cut-found k [] y h = refl
   cut-found k (x ∷ xs) y h =
       elim (order (key x) k) [
@@ -347,13 +347,13 @@ module _ {A : Type 0} (key : A → List ℕ) where
   -- The length afterwards.
 
   pub length-put-new : (r : A) (xs : List A) → find key (key r) xs ≡ none → length (put key r xs) ≡ suc (length xs)
-  length-put-new r xs h = rw (put-new r xs h) (simp (length-append, length-take, length-drop) (omega (arith, place-le (key r) xs)))
+  length-put-new r xs h = rw (put-new r xs h) (simp (length-append, length-take, length-drop) (omega (arith, index-le (key r) xs)))
 
   pub length-put-over : (r : A) (xs : List A) (y : A) → find key (key r) xs ≡ some y → length (put key r xs) ≡ length xs
-  length-put-over r xs y h = rw (put-over r xs y h) (simp (length-append, length-take, length-drop) (omega (arith, found-place (key r) xs y h)))
+  length-put-over r xs y h = rw (put-over r xs y h) (simp (length-append, length-take, length-drop) (omega (arith, found-index (key r) xs y h)))
 
   pub length-cut : (k : List ℕ) (xs : List A) (y : A) → find key k xs ≡ some y → suc (length (cut key k xs)) ≡ length xs
-  length-cut k xs y h = rw (cut-found k xs y h) (simp (length-append, length-take, length-drop) (omega (arith, found-place k xs y h)))
+  length-cut k xs y h = rw (cut-found k xs y h) (simp (length-append, length-take, length-drop) (omega (arith, found-index k xs y h)))
 
   pub length-cut-le : (k : List ℕ) (xs : List A) → length (cut key k xs) ≤ length xs
   length-cut-le k xs = go (find key k xs) refl
@@ -363,12 +363,12 @@ module _ {A : Type 0} (key : A → List ℕ) where
       go (some y) e = omega (arith, length-cut k xs y e)
 
   -- where the row is there already or one is free, there is room for the row put
-  pub put-fits : (r : A) (xs : List A) (room : ℕ)
-      → length xs ≤ room
-      → T (isThere (find key (key r) xs) || ltb (length xs) room)
-      → length (put key r xs) ≤ room
-  put-fits r xs room h t = go (find key (key r) xs) refl t
+  pub put-fits : (r : A) (xs : List A) (cap : ℕ)
+      → length xs ≤ cap
+      → T (isThere (find key (key r) xs) || ltb (length xs) cap)
+      → length (put key r xs) ≤ cap
+  put-fits r xs cap h t = go (find key (key r) xs) refl t
     where
-      go : (o : Option A) → find key (key r) xs ≡ o → T (isThere o || ltb (length xs) room) → length (put key r xs) ≤ room
-      go none e u = omega (arith, length-put-new r xs e, ltb→lt (length xs) room u)
+      go : (o : Option A) → find key (key r) xs ≡ o → T (isThere o || ltb (length xs) cap) → length (put key r xs) ≤ cap
+      go none e u = omega (arith, length-put-new r xs e, ltb→lt (length xs) cap u)
       go (some y) e u = omega (arith, length-put-over r xs y e)

@@ -72,11 +72,11 @@ said-no a t e h = sym e ∙ not-true t h
 pub said-yes : (a t : Bool) → t ≡ a → not t ≡ false → a ≡ true
 said-yes a t e h = sym e ∙ not-false t h
 
-pub told-no : (a t : Bool) → t ≡ a → t ≡ false → a ≡ false
-told-no a t e h = sym e ∙ h
+pub was-no : (a t : Bool) → t ≡ a → t ≡ false → a ≡ false
+was-no a t e h = sym e ∙ h
 
-pub told-yes : (a t : Bool) → t ≡ a → t ≡ true → a ≡ true
-told-yes a t e h = sym e ∙ h
+pub was-yes : (a t : Bool) → t ≡ a → t ≡ true → a ≡ true
+was-yes a t e h = sym e ∙ h
 
 pub two : (b : Bool) → (b ≡ true) ⊎ (b ≡ false)
 two true = _⊎_.inl refl

@@ -44,14 +44,14 @@ body-bytes : (bs : List Block) → All Sized bs → Bytes (bodyOf bs)
 body-bytes [] s = tt
 body-bytes (b ∷ bs) s = All-append (λ x. x < 256) (b .bytes) (bodyOf bs) (s .0 .are-bytes) (body-bytes bs (s .1))
 
-sized : {A : Type 0} (f : Format A) (law : Lawful f) (room : ℕ) (xs : List A) → length xs ≤ room → Sized (blockOf f room xs)
-sized f law room xs few =
+sized : {A : Type 0} (f : Format A) (law : Lawful f) (cap : ℕ) (xs : List A) → length xs ≤ cap → Sized (blockOf f cap xs)
+sized f law cap xs few =
     let wide : 1 ≤ size f = law .wide in
-    let more : room * 1 ≤ room * size f = mul-le-mul-left room wide in
+    let more : cap * 1 ≤ cap * size f = mul-le-mul-left cap wide in
     record {
-      used-few = rw (block-used f room xs, block-extent f room xs) (le-trans few (rw mul-one at more));
-      long = block-length f law room xs few ∙ sym (block-extent f room xs);
-      are-bytes = block-bytes f room xs;
+      used-few = rw (block-used f cap xs, block-extent f cap xs) (le-trans few (rw mul-one at more));
+      long = block-length f law cap xs few ∙ sym (block-extent f cap xs);
+      are-bytes = block-bytes f cap xs;
     }
 
 -- The layout that the nine numbers of a header are.
@@ -79,10 +79,10 @@ module _ (t : Tables) (good : Fitting t) where
 
   pub sizes : All Sized (blocks t)
   sizes =
-      sized (subjectFormat w) (subject-lawful w) (t .room .subjects) (t .subjects) (good .subjects-room)
-      and sized (grantFormat w) (grant-lawful w) (t .room .grants) (t .grants) (good .grants-room)
-      and sized (lineFormat w) (line-lawful w) (t .room .lines) (t .lines) (good .lines-room)
-      and sized itemFormat item-lawful (t .room .items) (t .items) (good .items-room)
+      sized (subjectFormat w) (subject-lawful w) (t .capacities .subjects) (t .subjects) (good .subjects-capacity)
+      and sized (grantFormat w) (grant-lawful w) (t .capacities .grants) (t .grants) (good .grants-capacity)
+      and sized (lineFormat w) (line-lawful w) (t .capacities .lines) (t .lines) (good .lines-capacity)
+      and sized itemFormat item-lawful (t .capacities .items) (t .items) (good .items-capacity)
       and tt
 
   front : List ℕ
@@ -125,24 +125,24 @@ module _ (t : Tables) (good : Fitting t) where
   items-from : drop (lay .items .start) (encode t) ≡ bodyOf (blocks-from 3)
   items-from = next-block (encode t) (lay .lines .start) (block 2) (bodyOf (blocks-from 3)) (sizes .1 .1 .0) lines-from
 
-  subjects-hold : Holds (subjectFormat w) (t .room .subjects) (t .subjects) (lay .subjects) (encode t)
+  subjects-hold : Holds (subjectFormat w) (t .capacities .subjects) (t .subjects) (lay .subjects) (encode t)
   subjects-hold =
-      holds-from (subjectFormat w) (subject-lawful w) (t .room .subjects) (t .subjects) (good .subjects-room)
+      holds-from (subjectFormat w) (subject-lawful w) (t .capacities .subjects) (t .subjects) (good .subjects-capacity)
       (encode t) headerSize (bodyOf (blocks-from 1)) body-from (good .subjects-fit)
 
-  grants-hold : Holds (grantFormat w) (t .room .grants) (t .grants) (lay .grants) (encode t)
+  grants-hold : Holds (grantFormat w) (t .capacities .grants) (t .grants) (lay .grants) (encode t)
   grants-hold =
-      holds-from (grantFormat w) (grant-lawful w) (t .room .grants) (t .grants) (good .grants-room)
+      holds-from (grantFormat w) (grant-lawful w) (t .capacities .grants) (t .grants) (good .grants-capacity)
       (encode t) (lay .grants .start) (bodyOf (blocks-from 2)) grants-from (good .grants-fit)
 
-  lines-hold : Holds (lineFormat w) (t .room .lines) (t .lines) (lay .lines) (encode t)
+  lines-hold : Holds (lineFormat w) (t .capacities .lines) (t .lines) (lay .lines) (encode t)
   lines-hold =
-      holds-from (lineFormat w) (line-lawful w) (t .room .lines) (t .lines) (good .lines-room)
+      holds-from (lineFormat w) (line-lawful w) (t .capacities .lines) (t .lines) (good .lines-capacity)
       (encode t) (lay .lines .start) (bodyOf (blocks-from 3)) lines-from (good .lines-fit)
 
-  items-hold : Holds itemFormat (t .room .items) (t .items) (lay .items) (encode t)
+  items-hold : Holds itemFormat (t .capacities .items) (t .items) (lay .items) (encode t)
   items-hold =
-      holds-from itemFormat item-lawful (t .room .items) (t .items) (good .items-room)
+      holds-from itemFormat item-lawful (t .capacities .items) (t .items) (good .items-capacity)
       (encode t) (lay .items .start) (bodyOf (blocks-from 4)) items-from (good .items-fit)
 
   tables-by : tablesBy lay (encode t) ≡ t
@@ -154,7 +154,7 @@ module _ (t : Tables) (good : Fitting t) where
         grants = grants-hold .rows-are i;
         lines = lines-hold .rows-are i;
         items = items-hold .rows-are i;
-        room = record { subjects = subjects-hold .room-is i; grants = grants-hold .room-is i; lines = lines-hold .room-is i; items = items-hold .room-is i };
+        capacities = record { subjects = subjects-hold .capacity-is i; grants = grants-hold .capacity-is i; lines = lines-hold .capacity-is i; items = items-hold .capacity-is i };
       }
 
   pub tables-there : tables (encode t) ≡ t
@@ -176,11 +176,11 @@ module _ (t : Tables) (good : Fitting t) where
   unfolding tableRules
   tables-right custodian-there =
       all-yes (tableRules lay)
-      (subjects-hold .lies-right
-      and grants-hold .lies-right
-      and lines-hold .lies-right
-      and items-hold .lies-right
-      and le→leb 1 (lay .subjects .used) (rw (block-used (subjectFormat w) (t .room .subjects) (t .subjects)) custodian-there)
+      (subjects-hold .laid-out
+      and grants-hold .laid-out
+      and lines-hold .laid-out
+      and items-hold .laid-out
+      and le→leb 1 (lay .subjects .used) (rw (block-used (subjectFormat w) (t .capacities .subjects) (t .subjects)) custodian-there)
       and tt)
 
   layout-right : 1 ≤ length (t .subjects) → T (allOf (layoutRules lay (encode t)))

@@ -24,10 +24,10 @@ extents [] = 0
 extents (b ∷ bs) = b .extent + extents bs
 
 pub record Fitting (t : Tables) : Type 0 where
-  pub subjects-room : length (t .subjects) ≤ t .room .subjects
-  pub grants-room : length (t .grants) ≤ t .room .grants
-  pub lines-room : length (t .lines) ≤ t .room .lines
-  pub items-room : length (t .items) ≤ t .room .items
+  pub subjects-capacity : length (t .subjects) ≤ t .capacities .subjects
+  pub grants-capacity : length (t .grants) ≤ t .capacities .grants
+  pub lines-capacity : length (t .lines) ≤ t .capacities .lines
+  pub items-capacity : length (t .items) ≤ t .capacities .items
   pub short : headerSize + extents (blocks t) ≤ longestImage
   pub subjects-fit : All (Fits (subjectFormat (widthIn t))) (t .subjects)
   pub grants-fit : All (Fits (grantFormat (widthIn t))) (t .grants)
@@ -36,10 +36,10 @@ pub record Fitting (t : Tables) : Type 0 where
 
 pub record WellFormed (t : Tables) : Type 0 where
   pub custodian-there : 1 ≤ length (t .subjects)
-  pub subjects-room : length (t .subjects) ≤ t .room .subjects
-  pub grants-room : length (t .grants) ≤ t .room .grants
-  pub lines-room : length (t .lines) ≤ t .room .lines
-  pub items-room : length (t .items) ≤ t .room .items
+  pub subjects-capacity : length (t .subjects) ≤ t .capacities .subjects
+  pub grants-capacity : length (t .grants) ≤ t .capacities .grants
+  pub lines-capacity : length (t .lines) ≤ t .capacities .lines
+  pub items-capacity : length (t .items) ≤ t .capacities .items
   pub short : headerSize + extents (blocks t) ≤ longestImage
   pub subjects-fit : All (Fits (subjectFormat (widthIn t))) (t .subjects)
   pub grants-fit : All (Fits (grantFormat (widthIn t))) (t .grants)

@@ -19,7 +19,7 @@ pub data Ask : Type 0 where
   checkImage : Ask
   operationSetOf : (subject role : ℕ) → Ask
   permissionSetOf : (subject role item : ℕ) → Ask
-  countLines : (list : ℕ) → Ask
+  listCount : (list : ℕ) → Ask
 
 -- The calls that write the image.
 pub data Change : Type 0 where
@@ -80,25 +80,25 @@ abbrev pub isEditor : Tables → ℕ → ℕ → Bool
 isEditor t s a = subjectUsed (t .subjects) s && not (eqb s custodian) && has editList (permissionSet t s 0 a)
 
 -- The result of a call that asks.
-unfoldable pub told : Tables → Ask → ℕ
-told t checkImage = 0
-told t (operationSetOf s r) = operationSet t s r
-told t (permissionSetOf s r i) = permissionSet t s r i
-told t (countLines a) = length (rowsOf a (t .lines))
+unfoldable pub askResult : Tables → Ask → ℕ
+askResult t checkImage = 0
+askResult t (operationSetOf s r) = operationSet t s r
+askResult t (permissionSetOf s r i) = permissionSet t s r i
+askResult t (listCount a) = length (rowsOf a (t .lines))
 
 -- One table anew, the others as they are.
 
 abbrev pub withSubjects : Tables → List SubjectRow → Tables
-withSubjects t rows = record { subjects = rows; grants = t .grants; lines = t .lines; items = t .items; room = t .room }
+withSubjects t rows = record { subjects = rows; grants = t .grants; lines = t .lines; items = t .items; capacities = t .capacities }
 
 abbrev pub withGrants : Tables → List GrantRow → Tables
-withGrants t rows = record { subjects = t .subjects; grants = rows; lines = t .lines; items = t .items; room = t .room }
+withGrants t rows = record { subjects = t .subjects; grants = rows; lines = t .lines; items = t .items; capacities = t .capacities }
 
 abbrev pub withLines : Tables → List LineRow → Tables
-withLines t rows = record { subjects = t .subjects; grants = t .grants; lines = rows; items = t .items; room = t .room }
+withLines t rows = record { subjects = t .subjects; grants = t .grants; lines = rows; items = t .items; capacities = t .capacities }
 
 abbrev pub withItems : Tables → List ItemRow → Tables
-withItems t rows = record { subjects = t .subjects; grants = t .grants; lines = t .lines; items = rows; room = t .room }
+withItems t rows = record { subjects = t .subjects; grants = t .grants; lines = t .lines; items = rows; capacities = t .capacities }
 
 -- the items with item i anew
 abbrev pub setItem : List ItemRow → ℕ → ItemRow → List ItemRow
@@ -106,12 +106,12 @@ setItem rows zero r = rows
 setItem rows (suc n) r = set rows n r
 
 -- Define subject stores the privileges as given for the custodian, otherwise what the caller's own row also has.
-abbrev pub stored : Tables → ℕ → ℕ → ℕ
-stored t c v = cond (eqb c custodian) v (v ∩ privilegesIn (t .subjects) c)
+abbrev pub newPrivileges : Tables → ℕ → ℕ → ℕ
+newPrivileges t c v = cond (eqb c custodian) v (v ∩ privilegesIn (t .subjects) c)
 
 -- The tables after a call.
 unfoldable pub after : Tables → Change → Tables
-after t (defineSubject c r p v) = withSubjects t (t .subjects ++ subjectRow p (stored t c v) c ∷ [])
+after t (defineSubject c r p v) = withSubjects t (t .subjects ++ subjectRow p (newPrivileges t c v) c ∷ [])
 after t (setGrant c s r d v) = withGrants t (put grantKey (grantRow s r c d v) (t .grants))
 after t (removeGrant c s r) = withGrants t (cut grantKey (s ∷ r ∷ []) (t .grants))
 after t (setLine c r a k s v) = withLines t (put lineKey (lineRow a k s v) (t .lines))
@@ -121,12 +121,12 @@ after t (bind c i a) = withItems t (setItem (t .items) i (withList (itemIn (t .i
 after t (handOver c i o) = withItems t (setItem (t .items) i (withOwner (itemIn (t .items) i) o))
 
 -- Its result: the new subject's number and the new item's, and 0 where no result is named.
-unfoldable pub made : Tables → Change → ℕ
-made t (defineSubject c r p v) = length (t .subjects)
-made t (setGrant c s r d v) = 0
-made t (removeGrant c s r) = 0
-made t (setLine c r a k s v) = 0
-made t (removeLine c r a k s) = 0
-made t (createItem c r a f) = suc (length (t .items))
-made t (bind c i a) = 0
-made t (handOver c i o) = 0
+unfoldable pub changeResult : Tables → Change → ℕ
+changeResult t (defineSubject c r p v) = length (t .subjects)
+changeResult t (setGrant c s r d v) = 0
+changeResult t (removeGrant c s r) = 0
+changeResult t (setLine c r a k s v) = 0
+changeResult t (removeLine c r a k s) = 0
+changeResult t (createItem c r a f) = suc (length (t .items))
+changeResult t (bind c i a) = 0
+changeResult t (handOver c i o) = 0

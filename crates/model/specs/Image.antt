@@ -133,7 +133,7 @@ itemFormat =
     }
 
 -- The capacities of the four tables, in rows. No call changes them.
-pub record Rooms : Type 0 where
+pub record Capacities : Type 0 where
   pub subjects : ℕ
   pub grants : ℕ
   pub lines : ℕ
@@ -145,7 +145,7 @@ pub record Tables : Type 0 where
   pub grants : List GrantRow
   pub lines : List LineRow
   pub items : List ItemRow
-  pub room : Rooms
+  pub capacities : Capacities
 
 -- Bytes to tables. The header: used rows and offset of subjects, then of grants, lines and items, then the total length.
 
@@ -176,8 +176,8 @@ abbrev pub widthIn : Tables → ℕ
 widthIn t = privilegeWidth
 
 -- the rows of n bytes that a table has room for
-abbrev pub roomBy : ℕ → Table → ℕ
-roomBy n t = (t .end - t .start) / n
+abbrev pub capacityBy : ℕ → Table → ℕ
+capacityBy n t = (t .end - t .start) / n
 
 module _ {A : Type 0} (f : Format A) where
   -- the first n rows of s
@@ -190,10 +190,10 @@ module _ {A : Type 0} (f : Format A) where
   rowsIn t img = rowsFrom (t .used) (drop (t .start) img)
 
   abbrev pub capacity : Table → ℕ
-  capacity t = roomBy (size f) t
+  capacity t = capacityBy (size f) t
 
-abbrev pub roomsBy : Layout → Rooms
-roomsBy lay =
+abbrev pub capacitiesBy : Layout → Capacities
+capacitiesBy lay =
     record {
       subjects = capacity (subjectFormat (widthOf lay)) (lay .subjects);
       grants = capacity (grantFormat (widthOf lay)) (lay .grants);
@@ -208,7 +208,7 @@ tablesBy lay img =
       grants = rowsIn (grantFormat (widthOf lay)) (lay .grants) img;
       lines = rowsIn (lineFormat (widthOf lay)) (lay .lines) img;
       items = rowsIn itemFormat (lay .items) img;
-      room = roomsBy lay;
+      capacities = capacitiesBy lay;
     }
 
 abbrev pub tables : List ℕ → Tables
@@ -227,19 +227,19 @@ module _ {A : Type 0} (f : Format A) where
   joined (x ∷ xs) = rowInBytes f x ++ joined xs
 
   unfoldable pub blockOf : ℕ → List A → Block
-  blockOf room rows =
+  blockOf cap rows =
       record {
         used = length rows;
-        extent = room * size f;
-        bytes = joined rows ++ replicate (room * size f - length rows * size f) 0;
+        extent = cap * size f;
+        bytes = joined rows ++ replicate (cap * size f - length rows * size f) 0;
       }
 
 abbrev pub blocks : Tables → List Block
 blocks t =
-    blockOf (subjectFormat (widthIn t)) (t .room .subjects) (t .subjects)
-    ∷ blockOf (grantFormat (widthIn t)) (t .room .grants) (t .grants)
-    ∷ blockOf (lineFormat (widthIn t)) (t .room .lines) (t .lines)
-    ∷ blockOf itemFormat (t .room .items) (t .items)
+    blockOf (subjectFormat (widthIn t)) (t .capacities .subjects) (t .subjects)
+    ∷ blockOf (grantFormat (widthIn t)) (t .capacities .grants) (t .grants)
+    ∷ blockOf (lineFormat (widthIn t)) (t .capacities .lines) (t .lines)
+    ∷ blockOf itemFormat (t .capacities .items) (t .items)
     ∷ []
 
 -- the header of blocks that start at a byte: used rows and offset of each, then the total length
@@ -365,12 +365,12 @@ grantsHold t = every (grantRules (t .subjects)) (t .grants) && ascending grantKe
 -- The rules of the layout.
 
 -- a table whose rows have n bytes does not end before it starts, is whole rows, and has room for those in use
-abbrev pub liesBy : ℕ → Table → Bool
-liesBy n t = allOf (leb (t .start) (t .end) ∷ eqb ((t .end - t .start) % n) 0 ∷ leb (t .used) (roomBy n t) ∷ [])
+abbrev pub laidOutBy : ℕ → Table → Bool
+laidOutBy n t = allOf (leb (t .start) (t .end) ∷ eqb ((t .end - t .start) % n) 0 ∷ leb (t .used) (capacityBy n t) ∷ [])
 
 module _ {A : Type 0} (f : Format A) where
-  abbrev pub tableLies : Table → Bool
-  tableLies t = liesBy (size f) t
+  abbrev pub laidOut : Table → Bool
+  laidOut t = laidOutBy (size f) t
 
   -- the bytes of its rows that are not in use
   abbrev pub unused : Table → List ℕ → List ℕ
@@ -383,10 +383,10 @@ headerRules lay img = eqb (lay .items .end) (length img) ∷ eqb (lay .subjects 
 -- those of the tables, and a subject is in use
 unfoldable pub tableRules : Layout → List Bool
 tableRules lay =
-    tableLies (subjectFormat (widthOf lay)) (lay .subjects)
-    ∷ tableLies (grantFormat (widthOf lay)) (lay .grants)
-    ∷ tableLies (lineFormat (widthOf lay)) (lay .lines)
-    ∷ tableLies itemFormat (lay .items)
+    laidOut (subjectFormat (widthOf lay)) (lay .subjects)
+    ∷ laidOut (grantFormat (widthOf lay)) (lay .grants)
+    ∷ laidOut (lineFormat (widthOf lay)) (lay .lines)
+    ∷ laidOut itemFormat (lay .items)
     ∷ leb 1 (lay .subjects .used)
     ∷ []
 

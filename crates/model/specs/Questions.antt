@@ -19,8 +19,8 @@ use Rattle.model.specs.Tree.{inTree}
 use Rattle.model.specs.WhoAndWhat.{custodian, defineCall, createCall, setLineCall, removeLineCall, neededPosition, has}
 use Rattle.model.specs.Image.{shortestImage, longestImage, Tables, layoutOf, tablesBy, tables, encode, widthOf, size, lineFormat, grantKey, lineKey, parentIn, subjectUsed, itemIn, itemUsed, isList, isLocked, noneOrList, flagsFit, kindFits, layoutRules, subjectsHold, itemsHold, linesHold, grantsHold, unusedRules}
 use Rattle.model.specs.Permission.{grantOf, operationSet, permissionSet}
-use Rattle.model.specs.Calls.{Ask, Change, rowsOf, rowsBefore, isEditor, told, after, made}
-use Rattle.model.specs.Calls.Ask.{checkImage, operationSetOf, permissionSetOf, countLines}
+use Rattle.model.specs.Calls.{Ask, Change, rowsOf, rowsBefore, isEditor, askResult, after, changeResult}
+use Rattle.model.specs.Calls.Ask.{checkImage, operationSetOf, permissionSetOf, listCount}
 use Rattle.model.specs.Calls.Change.{defineSubject, setGrant, removeGrant, setLine, removeLine, createItem, bind, handOver}
 
 pub record Question : Type 0 where
@@ -58,7 +58,7 @@ unfoldable pub askQuestions : Tables → Ask → List Question
 askQuestions t checkImage = []
 askQuestions t (operationSetOf s r) = 10 asks subjectUsed (t .subjects) s ∷ []
 askQuestions t (permissionSetOf s r i) = 10 asks subjectUsed (t .subjects) s ∷ 12 asks itemUsed (t .items) i ∷ []
-askQuestions t (countLines a) = 13 asks isList (t .items) a ∷ []
+askQuestions t (listCount a) = 13 asks isList (t .items) a ∷ []
 
 unfoldable pub editorQuestions : Tables → ℕ → List Question
 editorQuestions t a = 13 asks isList (t .items) a ∷ 20 asks someNumbered (λ s row. isEditor t s a) (t .subjects) ∷ []
@@ -94,7 +94,7 @@ questions t (defineSubject c r p v) =
     ∷ 11 asks subjectUsed (t .subjects) p
     ∷ 15 asks has (neededPosition defineCall) (operationSet t c r)
     ∷ 16 asks inReach t c r p
-    ∷ 19 asks ltb (length (t .subjects)) (t .room .subjects)
+    ∷ 19 asks ltb (length (t .subjects)) (t .capacities .subjects)
     ∷ []
 questions t (setGrant c s r d v) =
     10 asks subjectUsed (t .subjects) c
@@ -103,7 +103,7 @@ questions t (setGrant c s r d v) =
     ∷ 14 asks not (eqb r 0)
     ∷ 16 asks inTree (parentIn (t .subjects)) c d
     ∷ 18 asks (not (grantThere t s r) || grantedBy t c s r)
-    ∷ 19 asks (grantThere t s r || ltb (length (t .grants)) (t .room .grants))
+    ∷ 19 asks (grantThere t s r || ltb (length (t .grants)) (t .capacities .grants))
     ∷ []
 questions t (removeGrant c s r) =
     10 asks subjectUsed (t .subjects) c
@@ -118,7 +118,7 @@ questions t (setLine c r a k s v) =
     ∷ 13 asks isList (t .items) a
     ∷ 14 asks kindFits k s
     ∷ 15 asks has (neededPosition setLineCall) (permissionSet t c r a)
-    ∷ 19 asks (lineThere t a k s || ltb (length (t .lines)) (t .room .lines))
+    ∷ 19 asks (lineThere t a k s || ltb (length (t .lines)) (t .capacities .lines))
     ∷ []
 questions t (removeLine c r a k s) =
     10 asks subjectUsed (t .subjects) c
@@ -133,7 +133,7 @@ questions t (createItem c r a f) =
     ∷ 13 asks noneOrList (t .items) a
     ∷ 14 asks flagsFit f
     ∷ 15 asks has (neededPosition createCall) (operationSet t c r)
-    ∷ 19 asks ltb (length (t .items)) (t .room .items)
+    ∷ 19 asks ltb (length (t .items)) (t .capacities .items)
     ∷ []
 questions t (bind c i a) =
     10 asks subjectUsed (t .subjects) c
@@ -175,7 +175,7 @@ pub record Accepted (img : List ℕ) : Type 0 where
 
 -- What a call that asks answers.
 unfoldable pub ask : List ℕ → Ask → Answer
-ask img q = answered (firstNo (imageQuestions img ++ askQuestions (tables img) q)) (told (tables img) q)
+ask img q = answered (firstNo (imageQuestions img ++ askQuestions (tables img) q)) (askResult (tables img) q)
 
 -- What a call that writes answers, and the image afterwards. A refused call changes no byte.
 pub record Outcome : Type 0 where
@@ -186,21 +186,21 @@ abbrev pub settle : ℕ → ℕ → List ℕ → List ℕ → Outcome
 settle n r old new = record { answer = answered n r; image = cond (eqb n 0) new old }
 
 unfoldable pub act : List ℕ → Change → Outcome
-act img c = settle (firstNo (imageQuestions img ++ questions (tables img) c)) (made (tables img) c) img (encode (after (tables img) c))
+act img c = settle (firstNo (imageQuestions img ++ questions (tables img) c)) (changeResult (tables img) c) img (encode (after (tables img) c))
 
 -- Lines of a list: the part of the image with its rows, as its first byte and its length. Refused, or without rows: the empty part at byte 0.
 abbrev pub shows : List ℕ → ℕ → Bool
-shows img a = eqb (ask img (countLines a) .number) 0 && not (eqb (ask img (countLines a) .result) 0)
+shows img a = eqb (ask img (listCount a) .number) 0 && not (eqb (ask img (listCount a) .result) 0)
 
-unfoldable pub partStart : List ℕ → ℕ → ℕ
-partStart img a =
+unfoldable pub listStart : List ℕ → ℕ → ℕ
+listStart img a =
     cond (shows img a) (layoutOf img .lines .start + length (rowsBefore a (tables img .lines)) * size (lineFormat (widthOf (layoutOf img)))) 0
 
-unfoldable pub partLength : List ℕ → ℕ → ℕ
-partLength img a = cond (shows img a) (length (rowsOf a (tables img .lines)) * size (lineFormat (widthOf (layoutOf img)))) 0
+unfoldable pub listExtent : List ℕ → ℕ → ℕ
+listExtent img a = cond (shows img a) (length (rowsOf a (tables img .lines)) * size (lineFormat (widthOf (layoutOf img)))) 0
 
-abbrev pub partBytes : List ℕ → ℕ → List ℕ
-partBytes img a = take (partLength img a) (drop (partStart img a) img)
+abbrev pub listSlice : List ℕ → ℕ → List ℕ
+listSlice img a = take (listExtent img a) (drop (listStart img a) img)
 
 -- Editor search. Its number is decided. Which of several editors its result names is undecided: these properties hold of it.
 pub record EditorAnswer (img : List ℕ) (a : ℕ) (r : Answer) : Type 0 where

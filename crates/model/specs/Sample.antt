@@ -23,7 +23,7 @@ workshop =
       grants = grantRow 4 7 2 2 3 ∷ [];
       lines = lineRow 1 itselfKind 4 8 ∷ lineRow 1 itselfKind 5 0 ∷ lineRow 1 groupKind 1 3 ∷ lineRow 1 ownerKind 0 7 ∷ lineRow 1 everyoneKind 0 1 ∷ [];
       items = itemRow 1 1 1 ∷ itemRow 2 1 0 ∷ itemRow 4 1 0 ∷ itemRow 2 0 0 ∷ [];
-      room = record { subjects = 7; grants = 2; lines = 6; items = 5 };
+      capacities = record { subjects = 7; grants = 2; lines = 6; items = 5 };
     }
 
 pub record Case : Type 0 where

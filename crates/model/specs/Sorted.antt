@@ -25,9 +25,9 @@ module _ {A : Type 0} (key : A → List ℕ) where
   find k (x ∷ xs) = cond (before (key x) k) (find k xs) (cond (same (key x) k) (some x) none)
 
   -- the sorted place of key k: the number of rows with a lower key
-  unfoldable pub place : List ℕ → List A → ℕ
-  place k [] = 0
-  place k (x ∷ xs) = cond (before (key x) k) (suc (place k xs)) 0
+  unfoldable pub insertionIndex : List ℕ → List A → ℕ
+  insertionIndex k [] = 0
+  insertionIndex k (x ∷ xs) = cond (before (key x) k) (suc (insertionIndex k xs)) 0
 
   -- the row r at its sorted place; a row with an equal key is overwritten
   unfoldable pub put : A → List A → List A

@@ -42,16 +42,16 @@ module _ (t : Tables) (s r : ℕ) (row : ItemRow) where
   unfolding partOf
   part-other d e a b h deciding everyone one two both = rw (ne-eqb s 0 h, ← deciding, ← everyone, ← one, ← two) both
 
-module _ (t : Tables) (x : SoughtGrant) (g : GrantRow) (told : x ≡ Grant g) (r : ℕ) where
+module _ (t : Tables) (x : SoughtGrant) (g : GrantRow) (said : x ≡ Grant g) (r : ℕ) where
   pub operations-lent : (p : ℕ) → p ≡ privilegesIn (t .subjects) (g .grantor .0) → r ≡ g .privileges ∩ p → r ≡ lentOperations t (foundGrant x)
-  operations-lent p e f = rw (told, ← e) f
+  operations-lent p e f = rw (said, ← e) f
 
   module _ (row : ItemRow) (b : Bool) (asked : b ≡ inTree (parentIn (t .subjects)) (g .domain .0) (row .owner .0)) where
     pub part-outside : not b ≡ true → 0 ≡ lentOn t (foundGrant x) row
-    part-outside out = rw (told, said-no (inTree (parentIn (t .subjects)) (g .domain .0) (row .owner .0)) b asked out)
+    part-outside out = rw (said, said-no (inTree (parentIn (t .subjects)) (g .domain .0) (row .owner .0)) b asked out)
 
     pub part-lent : (p : ℕ) → not b ≡ false → p ≡ partOn t (g .grantor .0) row → r ≡ g .privileges ∩ p → r ≡ lentOn t (foundGrant x) row
-    part-lent p inside e f = rw (told, ← e, said-yes (inTree (parentIn (t .subjects)) (g .domain .0) (row .owner .0)) b asked inside) f
+    part-lent p inside e f = rw (said, ← e, said-yes (inTree (parentIn (t .subjects)) (g .domain .0) (row .owner .0)) b asked inside) f
 
 pub part-none : (t : Tables) (x : SoughtGrant) (row : ItemRow) → x ≡ NoGrant → 0 ≡ lentOn t (foundGrant x) row
-part-none t x row told = rw told
+part-none t x row said = rw said

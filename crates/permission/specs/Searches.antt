@@ -13,15 +13,15 @@ use Rattle.model.specs.declared.LineRow.{LineRow}
 use Rattle.model.specs.declared.SoughtLine.{SoughtLine}
 use Rattle.model.specs.declared.SoughtLine.the-variants.{Line, NoLine}
 use Rattle.model.specs.Lists.{orElse, isThere}
-use Rattle.model.specs.Sorted.{find, place}
+use Rattle.model.specs.Sorted.{find, insertionIndex}
 use Rattle.model.specs.Image.{rowsIn, tablesBy, widthOf, lineFormat, lineKey, groupKind, ownerKind, itselfKind, noLine, parentIn}
 use Rattle.model.specs.Permission.{foundLine, lineIn, groupWithin, groupLine, directLine}
 use Rattle.laws.specs.Rows.{rows-count}
-use Rattle.laws.specs.Sorted.{found-at, found-place}
+use Rattle.laws.specs.Sorted.{found-at, found-index}
 use Rattle.laws.specs.Tree.{group-up}
-use Rattle.search.specs.declared.Spot.{Spot}
-use Rattle.search.specs.declared.Spot.the-variants.{Over, New}
-use Rattle.search.specs.Spots.{spotIn}
+use Rattle.search.specs.declared.RowIndex.{RowIndex}
+use Rattle.search.specs.declared.RowIndex.the-variants.{Existing, New}
+use Rattle.search.specs.RowIndices.{rowIndex}
 use Rattle.permission.specs.Climbing.{climbingLayout}
 
 either-way : {A : Type 0} (b : Bool) (x : A) → cond b x x ≡ x
@@ -34,12 +34,12 @@ module _ (lines : List LineRow) (kind s : ℕ) (o : Option LineRow) where
   some-list (suc a) h e = e
 
 -- the first of two that is there
-module _ (x : SoughtLine) (a b : Option LineRow) (told : foundLine x ≡ a) where
+module _ (x : SoughtLine) (a b : Option LineRow) (said : foundLine x ≡ a) where
   pub first-there : (l : LineRow) → x ≡ Line l → some l ≡ orElse a b
-  first-there l h = rw (← told, h)
+  first-there l h = rw (← said, h)
 
   pub first-missing : (r : Option LineRow) → x ≡ NoLine → r ≡ b → r ≡ orElse a b
-  first-missing r h f = rw (← told, h) f
+  first-missing r h f = rw (← said, h) f
 
 -- A row by its index: past the end there is none.
 module _ {A : Type 0} where
@@ -54,20 +54,20 @@ module _ {A : Type 0} where
   index-there (x ∷ xs) (suc n) d h = index-there xs n d (le-of-suc-le-suc h)
 
   -- the row that a spot is over is the row that the search finds, and is there
-  module _ (key : A → List ℕ) (k : List ℕ) (xs : List A) (spot : Spot) (so : spot ≡ spotIn key k xs) (n : ℕ) where
-    over-first : spot ≡ Over n → (b : Option A) → getElem? xs n ≡ orElse (find key k xs) b
-    over-first over b = go (find key k xs) refl (sym so ∙ over)
+  module _ (key : A → List ℕ) (k : List ℕ) (xs : List A) (index : RowIndex) (so : index ≡ rowIndex key k xs) (n : ℕ) where
+    existing-first : index ≡ Existing n → (b : Option A) → getElem? xs n ≡ orElse (find key k xs) b
+    existing-first over b = go (find key k xs) refl (sym so ∙ over)
       where
-        go : (o : Option A) → find key k xs ≡ o → cond (isThere o) (Over (place key k xs)) (New (place key k xs)) ≡ Over n → getElem? xs n ≡ orElse o b
+        go : (o : Option A) → find key k xs ≡ o → cond (isThere o) (Existing (insertionIndex key k xs)) (New (insertionIndex key k xs)) ≡ Existing n → getElem? xs n ≡ orElse o b
         go none e same = absurd (false≢true cc)
         go (some y) e same =
-            let here : place key k xs ≡ n = cc in
-            rw (← here) (index-there xs (place key k xs) y (found-place key k xs y e) ∙ ap some (found-at key k xs y y e))
+            let here : insertionIndex key k xs ≡ n = cc in
+            rw (← here) (index-there xs (insertionIndex key k xs) y (found-index key k xs y e) ∙ ap some (found-at key k xs y y e))
 
-    new-none : spot ≡ New n → find key k xs ≡ none
+    new-none : index ≡ New n → find key k xs ≡ none
     new-none fresh = go (find key k xs) (sym so ∙ fresh)
       where
-        go : (o : Option A) → cond (isThere o) (Over (place key k xs)) (New (place key k xs)) ≡ New n → o ≡ none
+        go : (o : Option A) → cond (isThere o) (Existing (insertionIndex key k xs)) (New (insertionIndex key k xs)) ≡ New n → o ≡ none
         go none same = refl
         go (some y) same = absurd (false≢true cc)
 
@@ -76,15 +76,15 @@ module _ (up : ℕ → ℕ) (lines : List LineRow) (s a p : ℕ) (e : p ≡ up s
   group-out : (n : ℕ) → length lines ≤ n → s ≤ p → getElem? lines n ≡ groupLine up lines s a
   group-out n past h = rw (index-past lines n past, group-up up lines a s, ← e, le-ltb p s h)
 
-  module _ (low : p < s) (some-a : a ≡ 0 → ⊥) (spot : Spot) (so : spot ≡ spotIn lineKey (a ∷ groupKind ∷ p ∷ []) lines) (n : ℕ) where
+  module _ (low : p < s) (some-a : a ≡ 0 → ⊥) (index : RowIndex) (so : index ≡ rowIndex lineKey (a ∷ groupKind ∷ p ∷ []) lines) (n : ℕ) where
     stepped : groupLine up lines s a ≡ orElse (find lineKey (a ∷ groupKind ∷ p ∷ []) lines) (groupLine up lines p a)
     stepped = rw (group-up up lines a s, ← e, lt-ltb p s low, ← some-list lines groupKind p (find lineKey (a ∷ groupKind ∷ p ∷ []) lines) a some-a refl)
 
-    group-here : spot ≡ Over n → getElem? lines n ≡ groupLine up lines s a
-    group-here over = over-first lineKey (a ∷ groupKind ∷ p ∷ []) lines spot so n over (groupLine up lines p a) ∙ sym stepped
+    group-here : index ≡ Existing n → getElem? lines n ≡ groupLine up lines s a
+    group-here over = existing-first lineKey (a ∷ groupKind ∷ p ∷ []) lines index so n over (groupLine up lines p a) ∙ sym stepped
 
-    group-above : (r : ℕ) → spot ≡ New n → getElem? lines r ≡ groupLine up lines p a → getElem? lines r ≡ groupLine up lines s a
-    group-above r fresh f = rw (stepped, new-none lineKey (a ∷ groupKind ∷ p ∷ []) lines spot so n fresh) f
+    group-above : (r : ℕ) → index ≡ New n → getElem? lines r ≡ groupLine up lines p a → getElem? lines r ≡ groupLine up lines s a
+    group-above r fresh f = rw (stepped, new-none lineKey (a ∷ groupKind ∷ p ∷ []) lines index so n fresh) f
 
 -- The same as the code goes: lay is as much of a layout as it was handed.
 module _ (img : List ℕ) (members membersAt count linesAt : ℕ) (lay : Layout) (is : lay ≡ climbingLayout members membersAt count linesAt) (s a p : ℕ)
@@ -102,12 +102,12 @@ module _ (img : List ℕ) (members membersAt count linesAt : ℕ) (lay : Layout)
   unfolding tablesBy
   climb-out h = group-out parent lines s a p step count (le-of-eq (rows-count (lineFormat (widthOf lay)) (climbingLayout members membersAt count linesAt .lines) img)) h
 
-  module _ (low : p < s) (some-a : a ≡ 0 → ⊥) (spot : Spot) (so : spot ≡ spotIn lineKey (a ∷ groupKind ∷ p ∷ []) (tablesBy lay img .lines)) (n : ℕ) where
-    pub climb-here : spot ≡ Over n → getElem? lines n ≡ groupLine parent lines s a
-    climb-here over = group-here parent lines s a p step low some-a spot (rw is at so) n over
+  module _ (low : p < s) (some-a : a ≡ 0 → ⊥) (index : RowIndex) (so : index ≡ rowIndex lineKey (a ∷ groupKind ∷ p ∷ []) (tablesBy lay img .lines)) (n : ℕ) where
+    pub climb-here : index ≡ Existing n → getElem? lines n ≡ groupLine parent lines s a
+    climb-here over = group-here parent lines s a p step low some-a index (rw is at so) n over
 
-    pub climb-above : (r : ℕ) → spot ≡ New n → getElem? lines r ≡ groupLine parent lines p a → getElem? lines r ≡ groupLine parent lines s a
-    climb-above r fresh f = group-above parent lines s a p step low some-a spot (rw is at so) n r fresh f
+    pub climb-above : (r : ℕ) → index ≡ New n → getElem? lines r ≡ groupLine parent lines p a → getElem? lines r ≡ groupLine parent lines s a
+    climb-above r fresh f = group-above parent lines s a p step low some-a index (rw is at so) n r fresh f
 
 -- no list, no group line
 no-group : (n : ℕ) (up : ℕ → ℕ) (lines : List LineRow) (s : ℕ) → groupWithin n up lines s 0 ≡ none
@@ -130,18 +130,18 @@ module _ (lay : Layout) (img : List ℕ) (s a : ℕ) where
   abbrev climbed : Layout
   climbed = climbingLayout (lay .subjects .used) (lay .subjects .start) (lay .lines .used) (lay .lines .start)
 
-  module _ (n : ℕ) (told : getElem? (tablesBy climbed img .lines) n ≡ groupLine (parentIn (tablesBy climbed img .subjects)) (tablesBy climbed img .lines) s a) where
+  module _ (n : ℕ) (said : getElem? (tablesBy climbed img .lines) n ≡ groupLine (parentIn (tablesBy climbed img .subjects)) (tablesBy climbed img .lines) s a) where
     pub index-none : lay .lines .used ≤ n → none ≡ found
     unfolding tablesBy rowsIn
     index-none past =
         let rows : List LineRow = rowsIn (lineFormat (widthOf lay)) (lay .lines) img in
-        sym (index-past rows n (rw (rows-count (lineFormat (widthOf lay)) (lay .lines) img) past)) ∙ told
+        sym (index-past rows n (rw (rows-count (lineFormat (widthOf lay)) (lay .lines) img) past)) ∙ said
 
     pub index-row : (x : LineRow) → n < lay .lines .used → x ≡ getD (rowsIn (lineFormat (widthOf lay)) (lay .lines) img) n noLine → some x ≡ found
     unfolding tablesBy rowsIn
     index-row x there e =
         let rows : List LineRow = rowsIn (lineFormat (widthOf lay)) (lay .lines) img in
-        ap some e ∙ sym (index-there rows n noLine (rw (rows-count (lineFormat (widthOf lay)) (lay .lines) img) there)) ∙ told
+        ap some e ∙ sym (index-there rows n noLine (rw (rows-count (lineFormat (widthOf lay)) (lay .lines) img) there)) ∙ said
 
 -- The owner's line, and anybody else's.
 module _ (lines : List LineRow) (s o a : ℕ) (r : Option LineRow) where

@@ -14,9 +14,9 @@ use model::SoughtLine;
 use model::Subject;
 use model::Table;
 use rows::read::line_at;
-use search::Spot;
+use search::RowIndex;
 use search::lines::find_line;
-use search::lines::line_spot;
+use search::lines::line_index;
 use tables::subjects::parent_of;
 
 // The line of a list for a kind and a subject. No list means no lines.
@@ -72,10 +72,10 @@ fn group_index(
     if subject.0 <= parent.0 {
         return lines_used;
     }
-    let spot = line_spot(image, layout, list, LineRow::GROUP, parent);
-    match spot {
-        Spot::Over(n) => n,
-        Spot::New(_) => group_index(
+    let index = line_index(image, layout, list, LineRow::GROUP, parent);
+    match index {
+        RowIndex::Existing(n) => n,
+        RowIndex::New(_) => group_index(
             image,
             subjects_used,
             subjects_start,

@@ -61,7 +61,7 @@ module _ (t : Tables) (k n : ℕ) (p : List ℕ) (end : ℕ) where
   pub record Lined (left : ℕ) (q : List ℕ) (r : ℕ) : Type 0 where
     pub within : left ≤ n
     pub there : Put p end (linesFrom t (k + left) (n - left)) q r
-    pub room : end ≤ r + 63 * (n - left)
+    pub fits : end ≤ r + 63 * (n - left)
 
   no-lines : (j : ℕ) → linesFrom t j 0 ≡ []
   unfolding linesFrom
@@ -74,7 +74,7 @@ module _ (t : Tables) (k n : ℕ) (p : List ℕ) (end : ℕ) where
   pub lined-none : length p ≡ end → Lined n p end
   lined-none whole =
       let e : n - n ≡ 0 = omega arith in
-      record { within = omega arith; there = rw (e, no-lines) (put-none p end (omega arith)); room = omega arith }
+      record { within = omega arith; there = rw (e, no-lines) (put-none p end (omega arith)); fits = omega arith }
 
   pub lined-one : (left : ℕ) (q : List ℕ) (r : ℕ) (q′ : List ℕ) (r′ : ℕ)
       → 0 < left
@@ -90,7 +90,7 @@ module _ (t : Tables) (k n : ℕ) (p : List ℕ) (end : ℕ) where
       record {
         within = omega (arith, a .within);
         there = rw whole (put-more p end (linesFrom t (k + left) (n - left)) q r (lineAt t (k + (left - 1))) q′ r′ (a .there) b);
-        room = omega (arith, a .room, a .within);
+        fits = omega (arith, a .fits, a .within);
       }
 
   pub lined-all : (left : ℕ) (q : List ℕ) (r : ℕ) → left ≤ 0 → Lined left q r → Put p end (linesFrom t k n) q r

@@ -40,8 +40,8 @@ module _ (p : List ℕ) (end : ℕ) (text : List ℕ) where
   pub tail-none : end ≤ length p → Put p end (drop (length text) text) p end
   tail-none h = rw drop-length (put-none p end h)
 
-  pub tail-room : (k : ℕ) (q : List ℕ) (r : ℕ) → k ≤ length text → length text ≤ end → 0 < k → Put p end (drop k text) q r → 1 ≤ r
-  tail-room k q r few room some a =
+  pub tail-fits : (k : ℕ) (q : List ℕ) (r : ℕ) → k ≤ length text → length text ≤ end → 0 < k → Put p end (drop k text) q r → 1 ≤ r
+  tail-fits k q r few fits some a =
       let long : length (drop k text) ≡ length text - k = length-drop k text in
       omega (arith, a .starts)
 
@@ -69,18 +69,18 @@ pub record Spelt (p : List ℕ) (end n : ℕ) (q : List ℕ) (r rest : ℕ) : Ty
   pub there : Put p end done q r
   pub whole : digitsOf rest ++ done ≡ digitsOf n
   pub few : length (digitsOf n) ≤ 19
-  pub room : 19 ≤ end
+  pub fits : 19 ≤ end
 
 module _ (p : List ℕ) (end n : ℕ) where
   pub spelt-none : end ≤ length p → 19 ≤ end → n < 10 ^ 19 → Spelt p end n p end n
-  spelt-none h room short = record { done = []; there = put-none p end h; whole = append-nil (digitsOf n); few = digits-few 19 n short; room = room }
+  spelt-none h fits short = record { done = []; there = put-none p end h; whole = append-nil (digitsOf n); few = digits-few 19 n short; fits = fits }
 
-  pub spelt-room : (q : List ℕ) (r rest : ℕ) → 0 < rest → Spelt p end n q r rest → 1 ≤ r
-  spelt-room q r rest some a =
+  pub spelt-fits : (q : List ℕ) (r rest : ℕ) → 0 < rest → Spelt p end n q r rest → 1 ≤ r
+  spelt-fits q r rest some a =
       let all : length (digitsOf rest) + length (a .done) ≡ length (digitsOf n) = sym (length-append (digitsOf rest) (a .done)) ∙ ap length (a .whole) in
       let one : length (digitsOf rest) ≡ length (digitsOf (rest / 10)) + 1 =
       ap length (digits-step rest some) ∙ length-append (digitsOf (rest / 10)) (digit (rest % 10) ∷ []) in
-      omega (arith, a .there .starts, a .few, a .room)
+      omega (arith, a .there .starts, a .few, a .fits)
 
   pub spelt-one : (q : List ℕ) (r rest d : ℕ) (q′ : List ℕ) (r′ : ℕ)
       → 0 < rest
@@ -94,7 +94,7 @@ module _ (p : List ℕ) (end n : ℕ) where
         there = put-more p end (a .done) q r (digit (rest % 10) ∷ []) q′ r′ (a .there) (rw is at b);
         whole = sym (append-assoc (digitsOf (rest / 10)) (digit (rest % 10) ∷ []) (a .done)) ∙ ap (λ (l : List ℕ). l ++ a .done) (sym (digits-step rest some)) ∙ a .whole;
         few = a .few;
-        room = a .room;
+        fits = a .fits;
       }
 
   spelt-all : (q : List ℕ) (r rest : ℕ) → rest ≤ 0 → Spelt p end n q r rest → Put p end (digitsOf n) q r

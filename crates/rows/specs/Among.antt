@@ -10,7 +10,7 @@ use lib.Seq.{length-take-le, take-add, drop-at, drop-drop, take-all}
 use Rattle.model.specs.declared.Table.{Table}
 use Rattle.model.specs.Image.{Format, size, firstRow, rowsIn, fieldsAt}
 use Rattle.laws.specs.Tests.{le-or-lt}
-use Rattle.laws.specs.Rows.{Lawful, row-in, row-past, whole-row, part-row}
+use Rattle.laws.specs.Rows.{Lawful, row-in, row-past, whole-row, short-row}
 use Rattle.rows.specs.Reading.{rowOf, rowsSlice}
 use Rattle.rows.specs.RowLaws.{fields-front}
 
@@ -28,7 +28,7 @@ drop-take n m s = ⊎-elim inside past (le-or-lt n (length s))
 module _ {A : Type 0} (f : Format A) (law : Lawful f) where
   -- the first row of bytes is that of their first m, where m is a row or more
   first-of-take : (m : ℕ) (s : List ℕ) → size f ≤ m → firstRow f (take m s) ≡ firstRow f s
-  first-of-take m s enough = ⊎-elim whole part (le-or-lt (size f) (length s))
+  first-of-take m s enough = ⊎-elim whole partial (le-or-lt (size f) (length s))
     where
       whole : size f ≤ length s → firstRow f (take m s) ≡ firstRow f s
       whole h =
@@ -37,10 +37,10 @@ module _ {A : Type 0} (f : Format A) (law : Lawful f) where
           ap (λ (b : List ℕ). fieldsAt (f .widths) b 0) (sym (take-append-drop m s)) ∙ fields-front (f .widths) (take m s) (drop m s) 0 (omega arith) in
           whole-row f (take m s) long ∙ ap (f .row) (sym same) ∙ sym (whole-row f s h)
 
-      part : length s < size f → firstRow f (take m s) ≡ firstRow f s
-      part h =
+      partial : length s < size f → firstRow f (take m s) ≡ firstRow f s
+      partial h =
           let short : length (take m s) < size f = simp length-take (omega arith) in
-          part-row f (take m s) short ∙ sym (part-row f s h)
+          short-row f (take m s) short ∙ sym (short-row f s h)
 
   module _ (t : Table) (img : List ℕ) (d : A) (none : d ≡ f .row (replicate (length (f .widths)) 0)) (k : ℕ) where
     pub among-row : firstRow f (drop (k * size f) (rowsSlice f t img)) ≡ getD (rowsIn f t img) k d
@@ -55,7 +55,7 @@ module _ {A : Type 0} (f : Format A) (law : Lawful f) where
             let far : t .used * size f ≤ k * size f = mul-le-mul-right (size f) h in
             let short : length (take (t .used * size f) rest) ≤ k * size f = simp length-take (omega arith) in
             let empty : drop (k * size f) (take (t .used * size f) rest) ≡ [] = drop-of-length-le (take (t .used * size f) rest) {i = k * size f} short in
-            ap (firstRow f) empty ∙ part-row f [] (law .wide) ∙ sym none ∙ sym (row-past f t img d k h)
+            ap (firstRow f) empty ∙ short-row f [] (law .wide) ∙ sym none ∙ sym (row-past f t img d k h)
 
         used : k < t .used → firstRow f (drop (k * size f) (take (t .used * size f) rest)) ≡ getD (rowsIn f t img) k d
         used h =
@@ -75,7 +75,7 @@ module _ {A : Type 0} (f : Format A) (t : Table) (s : List ℕ) where
   unfolding rowsSlice
   rows-none h = rw (drop-of-length-le s {i = t .start} h) (sym (take-all {A = ℕ} (t .used * size f) [] (omega arith)))
 
-  module _ (p : ℕ) (place : p ≡ t .start + t .used * size f) where
+  module _ (p : ℕ) (is-offset : p ≡ t .start + t .used * size f) where
     pub rows-rest : length s < p → take (length s - t .start) (drop (t .start) s) ≡ rowsSlice f t s
     unfolding rowsSlice
     rows-rest h =
@@ -95,19 +95,19 @@ module _ {A : Type 0} (f : Format A) (law : Lawful f) (s : List ℕ) (k m : ℕ)
   past-end : m ≤ k → length s < k * size f + size f
   past-end h =
       let few : length s / size f < suc k = omega arith in
-      let room : length s < suc k * size f = div-lt-iff-lt-mul (law .wide) .0 few in
+      let long-enough : length s < suc k * size f = div-lt-iff-lt-mul (law .wide) .0 few in
       omega (arith, suc-mul k (size f))
 
   before-end : k < m → k * size f + size f ≤ length s
   before-end h =
-      let room : suc k * size f ≤ length s = le-div-iff-mul-le (law .wide) .0 (omega arith) in
+      let long-enough : suc k * size f ≤ length s = le-div-iff-mul-le (law .wide) .0 (omega arith) in
       omega (arith, suc-mul k (size f))
 
   pub among-none : (d r : A) → d ≡ f .row (replicate (length (f .widths)) 0) → m ≤ k → r ≡ d → r ≡ firstRow f (drop (k * size f) s)
   among-none d r none h e =
       let out : length s < k * size f + size f = past-end h in
       let short : length (drop (k * size f) s) < size f = simp length-drop (omega (arith, law .wide)) in
-      e ∙ none ∙ sym (part-row f (drop (k * size f) s) short)
+      e ∙ none ∙ sym (short-row f (drop (k * size f) s) short)
 
   -- n are the bytes of a row
   module _ (n : ℕ) (wide : n ≡ size f) (there : k < m) where
@@ -118,8 +118,8 @@ module _ {A : Type 0} (f : Format A) (law : Lawful f) (s : List ℕ) (k m : ℕ)
     among-whole r e =
         let at : ℕ = k * size f in
         let inside : at + size f ≤ length s = before-end there in
-        let room : size f ≤ length (drop at s) = simp length-drop (omega arith) in
-        let long : length (take (size f) (drop at s)) ≡ size f = length-take-le (size f) (drop at s) room in
+        let long-enough : size f ≤ length (drop at s) = simp length-drop (omega arith) in
+        let long : length (take (size f) (drop at s)) ≡ size f = length-take-le (size f) (drop at s) long-enough in
         let here : take (k * n + n - k * n) (drop (k * n) s) ≡ take (size f) (drop at s) = rw (wide, add-sub-cancel-left) in
         e
         ∙ ap (rowOf f) here

@@ -65,7 +65,7 @@ fields-put {s = s} {at = at} (then {ws} {vs} {q = q} {w = w} {v = v} e p) counte
     let wide : length (bytesOf w v) ≡ w = bytes-length w v in
     let long : length (rowBytes ws vs) ≡ sum ws = row-length ws vs rest-counted in
     let whole : at + (length (bytesOf w v) + length (rowBytes ws vs)) ≤ length s = omega arith in
-    let kept : length q ≡ length s = ap length e ∙ put-length s at (bytesOf w v) in
+    let same-long : length q ≡ length s = ap length e ∙ put-length s at (bytesOf w v) in
     let rest : at + w + sum ws ≤ length q = omega arith in
     fields-put p rest-counted rest
     ∙ ap (λ (t : List ℕ). putBytes t (at + w) (rowBytes ws vs)) e
@@ -73,13 +73,13 @@ fields-put {s = s} {at = at} (then {ws} {vs} {q = q} {w = w} {v = v} e p) counte
     ∙ put-put s at (bytesOf w v) (rowBytes ws vs) whole
 
 -- A row as the code writes it.
-pub row-unfit : (ws vs s : List ℕ) (at n places : ℕ)
+pub row-unfit : (ws vs s : List ℕ) (at n offset-count : ℕ)
     → length vs ≡ length ws
     → n ≡ sum ws
-    → places ≡ length s + 1 - n
-    → places ≤ at
+    → offset-count ≡ length s + 1 - n
+    → offset-count ≤ at
     → s ≡ putBytes s at (rowBytes ws vs)
-row-unfit ws vs s at n places counted size there h =
+row-unfit ws vs s at n offset-count counted size there h =
     let long : length (rowBytes ws vs) ≡ sum ws = row-length ws vs counted in
     sym (put-out s at (rowBytes ws vs) (omega arith))
 

@@ -16,7 +16,7 @@ use Rattle.model.specs.Lists.{sum}
 use Rattle.model.specs.Image.{Format, size, firstRow, rowsIn, fieldAt, fieldsAt, noItem, itemIn}
 use Rattle.laws.specs.Tests.{le-or-lt}
 use Rattle.laws.specs.Fields.{field-in, field-out, field-empty}
-use Rattle.laws.specs.Rows.{Lawful, row-in, row-past, whole-row, part-row}
+use Rattle.laws.specs.Rows.{Lawful, row-in, row-past, whole-row, short-row}
 use Rattle.rows.specs.Reading.{rowOf, rowSlice}
 
 -- Fields in the front part of bytes are those of the bytes.
@@ -24,8 +24,8 @@ use Rattle.rows.specs.Reading.{rowOf, rowSlice}
 field-front : (k : ℕ) (p r : List ℕ) (at : ℕ) → at + k ≤ length p → fieldAt k (p ++ r) at ≡ fieldAt k p at
 field-front k p r at h =
     let inside : at + k ≤ length (p ++ r) = simp length-append (omega arith) in
-    let room : k ≤ length (drop at p) = simp length-drop (omega arith) in
-    rw (field-in k (p ++ r) at inside, field-in k p at h, drop-append-le at p r (omega arith), take-append-le k (drop at p) r room)
+    let long-enough : k ≤ length (drop at p) = simp length-drop (omega arith) in
+    rw (field-in k (p ++ r) at inside, field-in k p at h, drop-append-le at p r (omega arith), take-append-le k (drop at p) r long-enough)
 
 pub fields-front : (ws p r : List ℕ) (at : ℕ) → at + sum ws ≤ length p → fieldsAt ws (p ++ r) at ≡ fieldsAt ws p at
 fields-front [] p r at h = refl
@@ -37,7 +37,7 @@ module _ (t : Table) (n k : ℕ) (s : List ℕ) where
   unfolding rowSlice
   slice-unused h = rw (le-ltb k (t .used) h)
 
-  module _ (used : k < t .used) (m : ℕ) (places : m ≡ length s + 1 - n) where
+  module _ (used : k < t .used) (m : ℕ) (offset-count : m ≡ length s + 1 - n) where
     pub slice-out : m ≤ t .start + k * n → [] ≡ rowSlice t n k s
     unfolding rowSlice
     slice-out h = rw (lt-ltb k (t .used) used, lt-leb (t .start + k * n + n) (length s) (omega arith))
@@ -70,17 +70,17 @@ module _ {A : Type 0} (f : Format A) (law : Lawful f) (t : Table) (img : List �
     row-out : length img < t .start + k * size f + size f → d ≡ getD (rowsIn f t img) k d
     row-out out =
         let short : length (drop (t .start + k * size f) img) < size f = simp length-drop (omega (arith, law .wide)) in
-        none ∙ sym (read ∙ part-row f (drop (t .start + k * size f) img) short)
+        none ∙ sym (read ∙ short-row f (drop (t .start + k * size f) img) short)
 
     pub row-whole : t .start + k * size f + size f ≤ length img → rowOf f (take (size f) (drop (t .start + k * size f) img)) ≡ getD (rowsIn f t img) k d
     row-whole inside =
         let at : ℕ = t .start + k * size f in
-        let room : size f ≤ length (drop at img) = simp length-drop (omega arith) in
-        let long : length (take (size f) (drop at img)) ≡ size f = length-take-le (size f) (drop at img) room in
+        let long-enough : size f ≤ length (drop at img) = simp length-drop (omega arith) in
+        let long : length (take (size f) (drop at img)) ≡ size f = length-take-le (size f) (drop at img) long-enough in
         let same : fieldsAt (f .widths) (drop at img) 0 ≡ fieldsAt (f .widths) (take (size f) (drop at img)) 0 =
         ap (λ (b : List ℕ). fieldsAt (f .widths) b 0) (sym (take-append-drop (size f) (drop at img)))
         ∙ fields-front (f .widths) (take (size f) (drop at img)) (drop (size f) (drop at img)) 0 (omega arith) in
-        ap (f .row) (sym same) ∙ sym (read ∙ whole-row f (drop at img) room)
+        ap (f .row) (sym same) ∙ sym (read ∙ whole-row f (drop at img) long-enough)
 
   -- a row that is not in use, or that runs past the end, is the row of zeros
   pub row-missing : t .used ≤ k ⊎ length img < t .start + k * size f + size f → d ≡ getD (rowsIn f t img) k d

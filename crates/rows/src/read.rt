@@ -5,7 +5,7 @@ ghost use Prim.Native.Nat.{_*_, _/_, _≤_};
 ghost use lib.ListN.{length, getD, drop};
 ghost use Rattle.model.specs.Image.{size, firstRow, rowsIn, itemIn, widthOf, subjectFormat, noSubject, grantFormat, noGrant, lineFormat, noLine, itemFormat};
 ghost use Rattle.rows.specs.Reading.{rowOf, rowSlice, rowsSlice};
-use fields::edits::places;
+use fields::edits::offset_count;
 use fields::numbers::field;
 use model::GrantRow;
 use model::Item;
@@ -21,7 +21,7 @@ use sizes::item_size;
 use sizes::line_size;
 use sizes::privileges_at;
 use sizes::privileges_size;
-use sizes::subject_place;
+use sizes::subject_offset;
 use sizes::subject_size;
 
 pub fn subject_at(bytes: &[u8], layout: Layout, n: u32) -> SubjectRow
@@ -66,7 +66,7 @@ fn row_bytes<'a>(bytes: &'a [u8], table: Table, size: usize, n: u32) -> &'a [u8]
         return &bytes[..0];
     }
     let at = table.start as usize + n as usize * size;
-    if places(bytes, size) <= at {
+    if offset_count(bytes, size) <= at {
         return &bytes[..0];
     }
     let end = at + size;
@@ -124,7 +124,7 @@ pub fn subject_rows<'a>(bytes: &'a [u8], layout: Layout) -> &'a [u8]
     if bytes.len() <= start {
         return &bytes[..0];
     }
-    let end = subject_place(layout, table.used);
+    let end = subject_offset(layout, table.used);
     if bytes.len() < end {
         return &bytes[start..];
     }

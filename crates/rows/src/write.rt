@@ -2,7 +2,7 @@
 ghost use mathlib.Core.Path.{_≡_};
 ghost use Rattle.model.specs.Image.{rowInBytes, widthOf, subjectFormat, grantFormat, lineFormat, itemFormat};
 ghost use Rattle.fields.specs.Edits.{putBytes};
-use fields::edits::places;
+use fields::edits::offset_count;
 use fields::numbers::put_field;
 use model::GrantRow;
 use model::ItemRow;
@@ -19,7 +19,7 @@ use sizes::subject_size;
 pub fn put_subject(bytes: &mut [u8], layout: Layout, at: usize, row: SubjectRow)
     ensures { λ _. ⌜ now (bytes .exit) ≡ putBytes (now (bytes .entry)) at (rowInBytes (subjectFormat (widthOf layout)) row) ⌝ }
 {
-    if places(bytes, subject_size(layout)) <= at {
+    if offset_count(bytes, subject_size(layout)) <= at {
         return;
     }
     let at_privileges = at + 4;
@@ -32,7 +32,7 @@ pub fn put_subject(bytes: &mut [u8], layout: Layout, at: usize, row: SubjectRow)
 pub fn put_grant(bytes: &mut [u8], layout: Layout, at: usize, row: GrantRow)
     ensures { λ _. ⌜ now (bytes .exit) ≡ putBytes (now (bytes .entry)) at (rowInBytes (grantFormat (widthOf layout)) row) ⌝ }
 {
-    if places(bytes, grant_size(layout)) <= at {
+    if offset_count(bytes, grant_size(layout)) <= at {
         return;
     }
     let at_role = at + 4;
@@ -49,7 +49,7 @@ pub fn put_grant(bytes: &mut [u8], layout: Layout, at: usize, row: GrantRow)
 pub fn put_line(bytes: &mut [u8], layout: Layout, at: usize, row: LineRow)
     ensures { λ _. ⌜ now (bytes .exit) ≡ putBytes (now (bytes .entry)) at (rowInBytes (lineFormat (widthOf layout)) row) ⌝ }
 {
-    if places(bytes, line_size(layout)) <= at {
+    if offset_count(bytes, line_size(layout)) <= at {
         return;
     }
     let at_kind = at + 4;
@@ -64,7 +64,7 @@ pub fn put_line(bytes: &mut [u8], layout: Layout, at: usize, row: LineRow)
 pub fn put_item(bytes: &mut [u8], layout: Layout, at: usize, row: ItemRow)
     ensures { λ _. ⌜ now (bytes .exit) ≡ putBytes (now (bytes .entry)) at (rowInBytes itemFormat row) ⌝ }
 {
-    if places(bytes, item_size(layout)) <= at {
+    if offset_count(bytes, item_size(layout)) <= at {
         return;
     }
     let at_list = at + 4;

@@ -1,5 +1,5 @@
 // Words, numbers and answers on standard output.
-use asking::sets::check_image;
+use asking::sets::check;
 use model::Answer;
 
 // A number behind its name.
@@ -17,7 +17,7 @@ pub fn print_answer(answer: Answer) {
 // What came back from a call that may have written, and whether the image is still accepted.
 pub fn print_outcome(answer: Answer, image: &[u8]) {
     print_answer(answer);
-    let checked = check_image(image);
+    let checked = check(image);
     print_number(b" check ", checked.number);
 }
 

@@ -3,10 +3,10 @@ use super::printing::end_line;
 use super::printing::print_answer;
 use super::printing::print_number;
 use asking::editor::find_editor;
-use asking::lines::count_lines;
 use asking::lines::lines_of;
-use asking::lines::lines_start;
-use asking::sets::check_image;
+use asking::lines::list_count;
+use asking::lines::list_start;
+use asking::sets::check;
 use asking::sets::operation_set;
 use asking::sets::permission_set;
 use fields::numbers::put_field;
@@ -45,10 +45,10 @@ pub fn print_checks() {
     write_header(&mut custodian, 1, 48);
     put_field(&mut custodian, 40, 4294967295);
     let long = [0u8; 65537];
-    print_check(b"check_image, zeros, bytes ", &short);
-    print_check(b"check_image, no subject, bytes ", &empty);
-    print_check(b"check_image, the custodian only, bytes ", &custodian);
-    print_check(b"check_image, zeros, bytes ", &long);
+    print_check(b"check, zeros, bytes ", &short);
+    print_check(b"check, no subject, bytes ", &empty);
+    print_check(b"check, the custodian only, bytes ", &custodian);
+    print_check(b"check, zeros, bytes ", &long);
 }
 
 // The header of an image with room for subjects alone.
@@ -64,7 +64,7 @@ fn write_header(image: &mut [u8], subjects: u32, length: u32) {
 fn print_check(name: &[u8], image: &[u8]) {
     io::write_all(1, name);
     io::print_decimal(1, image.len() as u64);
-    print_answer(check_image(image));
+    print_answer(check(image));
     end_line();
 }
 
@@ -89,10 +89,10 @@ pub fn ask_operations(image: &[u8], subject: u32, role: u32) {
 
 // The rows of a list: how many, at which byte they start, and how many bytes the part of the image has.
 fn print_lines(image: &[u8], list: u32) {
-    print_number(b"count_lines list ", list);
-    print_answer(count_lines(image, Item(list)));
+    print_number(b"list_count list ", list);
+    print_answer(list_count(image, Item(list)));
     io::write_all(1, b"; lines_of starts at ");
-    io::print_decimal(1, lines_start(image, Item(list)) as u64);
+    io::print_decimal(1, list_start(image, Item(list)) as u64);
     io::write_all(1, b" bytes ");
     io::print_decimal(1, lines_of(image, Item(list)).len() as u64);
     end_line();

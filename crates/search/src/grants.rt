@@ -1,11 +1,11 @@
 // Grants by key: receiver, then role.
 ghost use mathlib.Core.List.{[], _∷_};
 ghost use mathlib.Core.Path.{_≡_};
-ghost use Rattle.model.specs.Sorted.{before, same, place, find};
+ghost use Rattle.model.specs.Sorted.{before, same, insertionIndex, find};
 ghost use Rattle.model.specs.Image.{tablesBy, grantKey};
-ghost use Rattle.search.specs.Spots.{spotIn};
+ghost use Rattle.search.specs.RowIndices.{rowIndex};
 ghost use Rattle.model.specs.Permission.{foundGrant};
-use crate::Spot;
+use crate::RowIndex;
 use model::GrantRow;
 use model::Layout;
 use model::Role;
@@ -34,8 +34,8 @@ pub fn is_grant(row: GrantRow, receiver: Subject, role: Role) -> bool
 }
 
 // The sorted place of a key: the number of rows with a lower one. The pass ends at the first row that is not lower.
-pub fn grant_rank(image: &[u8], layout: Layout, receiver: Subject, role: Role) -> u32
-    ensures { λ r. ⌜ r ≡ place grantKey (receiver .0 ∷ role .0 ∷ []) (tablesBy layout (now (image .entry)) .grants) ⌝ }
+pub fn grant_insertion_index(image: &[u8], layout: Layout, receiver: Subject, role: Role) -> u32
+    ensures { λ r. ⌜ r ≡ insertionIndex grantKey (receiver .0 ∷ role .0 ∷ []) (tablesBy layout (now (image .entry)) .grants) ⌝ }
 {
     let table = layout.grants;
     let used = table.used;
@@ -53,11 +53,11 @@ pub fn find_grant(image: &[u8], layout: Layout, receiver: Subject, role: Role) -
     ensures { λ r. ⌜ foundGrant r ≡ find grantKey (receiver .0 ∷ role .0 ∷ []) (tablesBy layout (now (image .entry)) .grants) ⌝ }
 {
     let table = layout.grants;
-    let rank = grant_rank(image, layout, receiver, role);
-    if table.used <= rank {
+    let index = grant_insertion_index(image, layout, receiver, role);
+    if table.used <= index {
         return SoughtGrant::NoGrant;
     }
-    let row = grant_at(image, layout, rank);
+    let row = grant_at(image, layout, index);
     if !is_grant(row, receiver, role) {
         return SoughtGrant::NoGrant;
     }
@@ -65,16 +65,16 @@ pub fn find_grant(image: &[u8], layout: Layout, receiver: Subject, role: Role) -
 }
 
 // Where the row with a key goes. One search answers it, and the questions of a call and its change share the answer.
-pub fn grant_spot(image: &[u8], layout: Layout, receiver: Subject, role: Role) -> Spot
-    ensures { λ r. ⌜ r ≡ spotIn grantKey (receiver .0 ∷ role .0 ∷ []) (tablesBy layout (now (image .entry)) .grants) ⌝ }
+pub fn grant_index(image: &[u8], layout: Layout, receiver: Subject, role: Role) -> RowIndex
+    ensures { λ r. ⌜ r ≡ rowIndex grantKey (receiver .0 ∷ role .0 ∷ []) (tablesBy layout (now (image .entry)) .grants) ⌝ }
 {
     let table = layout.grants;
-    let rank = grant_rank(image, layout, receiver, role);
-    if table.used <= rank {
-        return Spot::New(rank);
+    let index = grant_insertion_index(image, layout, receiver, role);
+    if table.used <= index {
+        return RowIndex::New(index);
     }
-    if !is_grant(grant_at(image, layout, rank), receiver, role) {
-        return Spot::New(rank);
+    if !is_grant(grant_at(image, layout, index), receiver, role) {
+        return RowIndex::New(index);
     }
-    Spot::Over(rank)
+    RowIndex::Existing(index)
 }

@@ -1,11 +1,11 @@
 // Lines by key: list, then kind, then subject.
 ghost use mathlib.Core.List.{[], _∷_};
 ghost use mathlib.Core.Path.{_≡_};
-ghost use Rattle.model.specs.Sorted.{before, same, place, find};
+ghost use Rattle.model.specs.Sorted.{before, same, insertionIndex, find};
 ghost use Rattle.model.specs.Image.{tablesBy, lineKey, kindFits};
-ghost use Rattle.search.specs.Spots.{spotIn};
+ghost use Rattle.search.specs.RowIndices.{rowIndex};
 ghost use Rattle.model.specs.Permission.{foundLine};
-use crate::Spot;
+use crate::RowIndex;
 use model::Item;
 use model::Layout;
 use model::LineRow;
@@ -53,8 +53,14 @@ pub fn kind_fits(kind: u32, subject: Subject) -> bool
 }
 
 // The sorted place of a key: the number of rows with a lower one. The pass ends at the first row that is not lower.
-pub fn line_rank(image: &[u8], layout: Layout, list: Item, kind: u32, subject: Subject) -> u32
-    ensures { λ r. ⌜ r ≡ place lineKey (list .0 ∷ kind ∷ subject .0 ∷ []) (tablesBy layout (now (image .entry)) .lines) ⌝ }
+pub fn line_insertion_index(
+    image: &[u8],
+    layout: Layout,
+    list: Item,
+    kind: u32,
+    subject: Subject,
+) -> u32
+    ensures { λ r. ⌜ r ≡ insertionIndex lineKey (list .0 ∷ kind ∷ subject .0 ∷ []) (tablesBy layout (now (image .entry)) .lines) ⌝ }
 {
     let table = layout.lines;
     let used = table.used;
@@ -78,11 +84,11 @@ pub fn find_line(
     ensures { λ r. ⌜ foundLine r ≡ find lineKey (list .0 ∷ kind ∷ subject .0 ∷ []) (tablesBy layout (now (image .entry)) .lines) ⌝ }
 {
     let table = layout.lines;
-    let rank = line_rank(image, layout, list, kind, subject);
-    if table.used <= rank {
+    let index = line_insertion_index(image, layout, list, kind, subject);
+    if table.used <= index {
         return SoughtLine::NoLine;
     }
-    let row = line_at(image, layout, rank);
+    let row = line_at(image, layout, index);
     if !is_line(row, list, kind, subject) {
         return SoughtLine::NoLine;
     }
@@ -90,16 +96,16 @@ pub fn find_line(
 }
 
 // Where the row with a key goes. One search answers it, and the questions of a call and its change share the answer.
-pub fn line_spot(image: &[u8], layout: Layout, list: Item, kind: u32, subject: Subject) -> Spot
-    ensures { λ r. ⌜ r ≡ spotIn lineKey (list .0 ∷ kind ∷ subject .0 ∷ []) (tablesBy layout (now (image .entry)) .lines) ⌝ }
+pub fn line_index(image: &[u8], layout: Layout, list: Item, kind: u32, subject: Subject) -> RowIndex
+    ensures { λ r. ⌜ r ≡ rowIndex lineKey (list .0 ∷ kind ∷ subject .0 ∷ []) (tablesBy layout (now (image .entry)) .lines) ⌝ }
 {
     let table = layout.lines;
-    let rank = line_rank(image, layout, list, kind, subject);
-    if table.used <= rank {
-        return Spot::New(rank);
+    let index = line_insertion_index(image, layout, list, kind, subject);
+    if table.used <= index {
+        return RowIndex::New(index);
     }
-    if !is_line(line_at(image, layout, rank), list, kind, subject) {
-        return Spot::New(rank);
+    if !is_line(line_at(image, layout, index), list, kind, subject) {
+        return RowIndex::New(index);
     }
-    Spot::Over(rank)
+    RowIndex::Existing(index)
 }

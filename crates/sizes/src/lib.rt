@@ -64,7 +64,7 @@ pub fn item_size(layout: Layout) -> usize
 }
 
 // The places of rows, numbered from 0. The bound lets callers add a row's size to a place without a test.
-pub fn subject_place(layout: Layout, n: u32) -> usize
+pub fn subject_offset(layout: Layout, n: u32) -> usize
     ensures { λ r. ⌜ r ≡ layout .subjects .start + n * size (subjectFormat (widthOf layout)) ⌝ }
     ensures { λ r. ⌜ r < 2 ^ 40 ⌝ }
 {
@@ -72,7 +72,7 @@ pub fn subject_place(layout: Layout, n: u32) -> usize
     table.start as usize + n as usize * SubjectRow::SIZE
 }
 
-pub fn grant_place(layout: Layout, n: u32) -> usize
+pub fn grant_offset(layout: Layout, n: u32) -> usize
     ensures { λ r. ⌜ r ≡ layout .grants .start + n * size (grantFormat (widthOf layout)) ⌝ }
     ensures { λ r. ⌜ r < 2 ^ 40 ⌝ }
 {
@@ -80,7 +80,7 @@ pub fn grant_place(layout: Layout, n: u32) -> usize
     table.start as usize + n as usize * GrantRow::SIZE
 }
 
-pub fn line_place(layout: Layout, n: u32) -> usize
+pub fn line_offset(layout: Layout, n: u32) -> usize
     ensures { λ r. ⌜ r ≡ layout .lines .start + n * size (lineFormat (widthOf layout)) ⌝ }
     ensures { λ r. ⌜ r < 2 ^ 40 ⌝ }
 {
@@ -88,7 +88,7 @@ pub fn line_place(layout: Layout, n: u32) -> usize
     table.start as usize + n as usize * LineRow::SIZE
 }
 
-pub fn item_place(layout: Layout, n: u32) -> usize
+pub fn item_offset(layout: Layout, n: u32) -> usize
     ensures { λ r. ⌜ r ≡ layout .items .start + n * size itemFormat ⌝ }
     ensures { λ r. ⌜ r < 2 ^ 40 ⌝ }
 {

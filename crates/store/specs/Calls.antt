@@ -12,15 +12,15 @@ use Rattle.model.specs.declared.Answer.{Answer}
 use Rattle.model.specs.declared.ItemRow.{ItemRow}
 use Rattle.model.specs.declared.Table.{Table}
 use Rattle.model.specs.Lists.{isThere}
-use Rattle.model.specs.Sorted.{find, place, put, cut}
+use Rattle.model.specs.Sorted.{find, insertionIndex, put, cut}
 use Rattle.model.specs.Image.{Format, layoutOf, tablesBy, tables, rowsIn, itemUsed, encode}
 use Rattle.model.specs.Calls.{Change, withItems, setItem, after}
 use Rattle.model.specs.Questions.{questions, answer, Accepted, act}
 use Rattle.laws.specs.WellFormed.{Passed}
-use Rattle.laws.specs.Cases.{Apart, case-no, case-told, case-yes, case-number, no-says, yes-says}
+use Rattle.laws.specs.Cases.{Apart, case-no, case-handed-on, case-yes, case-number, no-says, yes-says}
 use Rattle.laws.specs.Acts.{was-passed, was-accepted, leaves, slice-bytes}
-use Rattle.search.specs.declared.Spot.{Spot}
-use Rattle.search.specs.Spots.{spotIn}
+use Rattle.search.specs.declared.RowIndex.{RowIndex}
+use Rattle.search.specs.RowIndices.{rowIndex}
 use Rattle.store.specs.declared.Storing.{Storing}
 use Rattle.store.specs.declared.Storing.the-variants as store
 use Rattle.store.specs.declared.Removing.{Removing}
@@ -35,40 +35,40 @@ remove-apart : Apart remove.Row remove.Refused
 remove-apart = record { differ = λ x n e. false≢true cc; one-yes = λ x y e. cc; one-no = λ m n e. cc }
 
 -- The questions before a store: how code comes to each case, and what the case o says that it was told.
-module _ (m : ℕ) (spot : Spot) where
-  pub store-refused : (n : ℕ) → eqb n 0 ≡ false → n ≡ m → store.Refused n ≡ storing m spot
-  store-refused = case-no store.At store.Refused m spot
+module _ (m : ℕ) (index : RowIndex) where
+  pub store-refused : (n : ℕ) → eqb n 0 ≡ false → n ≡ m → store.Refused n ≡ storing m index
+  store-refused = case-no store.At store.Refused m index
 
-  pub store-told : (n : ℕ) → (n ≡ 0 → ⊥) → n ≡ m → store.Refused n ≡ storing m spot
-  store-told = case-told store.At store.Refused m spot
+  pub store-handed-on : (n : ℕ) → (n ≡ 0 → ⊥) → n ≡ m → store.Refused n ≡ storing m index
+  store-handed-on = case-handed-on store.At store.Refused m index
 
-  pub store-at : (s : Spot) → 0 ≡ m → s ≡ spot → store.At s ≡ storing m spot
-  store-at = case-yes store.At store.Refused m spot
+  pub store-at : (s : RowIndex) → 0 ≡ m → s ≡ index → store.At s ≡ storing m index
+  store-at = case-yes store.At store.Refused m index
 
   -- the number of the case is the first no's
-  pub store-also : (o : Storing) → o ≡ storing m spot → (o ≡ storing m spot) × (storingNumber o ≡ m)
-  store-also = case-number store.At store.Refused m spot storingNumber refl refl
+  pub store-also : (o : Storing) → o ≡ storing m index → (o ≡ storing m index) × (storingNumber o ≡ m)
+  store-also = case-number store.At store.Refused m index storingNumber refl refl
 
-  module _ (o : Storing) (is : o ≡ storing m spot) where
+  module _ (o : Storing) (is : o ≡ storing m index) where
     pub store-number : (n : ℕ) → o ≡ store.Refused n → n ≡ m
-    store-number n case = no-says store.At store.Refused m spot store-apart o is n case .0
+    store-number n case = no-says store.At store.Refused m index store-apart o is n case .0
 
     pub store-not : (n : ℕ) → o ≡ store.Refused n → n ≡ 0 → ⊥
-    store-not n case = no-says store.At store.Refused m spot store-apart o is n case .1
+    store-not n case = no-says store.At store.Refused m index store-apart o is n case .1
 
-    pub store-passed : (s : Spot) → o ≡ store.At s → m ≡ 0
-    store-passed s case = yes-says store.At store.Refused m spot store-apart o is s case .0
+    pub store-passed : (s : RowIndex) → o ≡ store.At s → m ≡ 0
+    store-passed s case = yes-says store.At store.Refused m index store-apart o is s case .0
 
-    pub store-spot : (s : Spot) → o ≡ store.At s → s ≡ spot
-    store-spot s case = yes-says store.At store.Refused m spot store-apart o is s case .1
+    pub store-index : (s : RowIndex) → o ≡ store.At s → s ≡ index
+    store-index s case = yes-says store.At store.Refused m index store-apart o is s case .1
 
 -- The same before a removal.
 module _ (m row : ℕ) where
   pub remove-refused : (n : ℕ) → eqb n 0 ≡ false → n ≡ m → remove.Refused n ≡ removing m row
   remove-refused = case-no remove.Row remove.Refused m row
 
-  pub remove-told : (n : ℕ) → (n ≡ 0 → ⊥) → n ≡ m → remove.Refused n ≡ removing m row
-  remove-told = case-told remove.Row remove.Refused m row
+  pub remove-handed-on : (n : ℕ) → (n ≡ 0 → ⊥) → n ≡ m → remove.Refused n ≡ removing m row
+  remove-handed-on = case-handed-on remove.Row remove.Refused m row
 
   pub remove-at : (r : ℕ) → 0 ≡ m → r ≡ row → remove.Row r ≡ removing m row
   remove-at = case-yes remove.Row remove.Refused m row
@@ -90,52 +90,52 @@ module _ (m row : ℕ) where
     remove-row r case = yes-says remove.Row remove.Refused m row remove-apart o is r case .1
 
 -- The image afterwards, of a call c that is done.
-module _ {A : Type 0} (f : Format A) (table : Table) (counter room : ℕ) (img : List ℕ) (bytesFor : List A → List ℕ)
-    (stored : Accepted img → Stored f table counter room (rowsIn f table img) img bytesFor)
-    (c : Change) (a : Answer) (answered : a ≡ act img c .answer) (m : ℕ) (told : a ≡ answer 0 m) (bytes : (i : ℕ) → Fits w8 (getD img i 0)) (new : List ℕ) where
+module _ {A : Type 0} (f : Format A) (table : Table) (counter cap : ℕ) (img : List ℕ) (bytesFor : List A → List ℕ)
+    (stored : Accepted img → Stored f table counter cap (rowsIn f table img) img bytesFor)
+    (c : Change) (a : Answer) (answered : a ≡ act img c .answer) (m : ℕ) (said : a ≡ answer 0 m) (bytes : (i : ℕ) → Fits w8 (getD img i 0)) (new : List ℕ) where
   abbrev rows : List A
   rows = rowsIn f table img
 
   accepted : Accepted img
-  accepted = was-accepted img c a answered m told (slice-bytes img bytes)
+  accepted = was-accepted img c a answered m said (slice-bytes img bytes)
 
   done : {made : List ℕ} → new ≡ made → made ≡ encode (after (tables img) c) → new ≡ act img c .image
-  done e is = leaves img c a answered m told new (e ∙ is)
+  done e is = leaves img c a answered m said new (e ∙ is)
 
   -- a row appended
   pub row-more : (x : A)
       → encode (after (tables img) c) ≡ bytesFor (rows ++ x ∷ [])
-      → (Passed (questions (tables img) c) → T (ltb (length rows) room))
+      → (Passed (questions (tables img) c) → T (ltb (length rows) cap))
       → new ≡ withRow f counter table (table .used) x img
       → new ≡ act img c .image
   row-more x leaves-so free e =
-      done e (appended f table counter room img bytesFor (stored accepted) x (free (was-passed img c a answered m told)) ∙ sym leaves-so)
+      done e (appended f table counter cap img bytesFor (stored accepted) x (free (was-passed img c a answered m said)) ∙ sym leaves-so)
 
   -- a row put at its place in a sorted table, and one cut out; d is any row
   module _ (key : A → List ℕ) (d : A) where
-    pub row-set : (x : A) (spot : Spot)
+    pub row-set : (x : A) (index : RowIndex)
         → encode (after (tables img) c) ≡ bytesFor (put key x rows)
-        → (Passed (questions (tables img) c) → T (isThere (find key (key x) rows) || ltb (length rows) room))
-        → spot ≡ spotIn key (key x) rows
-        → new ≡ storedAt f counter table spot x img
+        → (Passed (questions (tables img) c) → T (isThere (find key (key x) rows) || ltb (length rows) cap))
+        → index ≡ rowIndex key (key x) rows
+        → new ≡ storedAt f counter table index x img
         → new ≡ act img c .image
-    row-set x spot leaves-so free found e =
-        done (e ∙ ap (λ (s : Spot). storedAt f counter table s x img) found)
-        (put-stored f key d table counter room img bytesFor (stored accepted) x (free (was-passed img c a answered m told)) ∙ sym leaves-so)
+    row-set x index leaves-so free found e =
+        done (e ∙ ap (λ (s : RowIndex). storedAt f counter table s x img) found)
+        (put-stored f key d table counter cap img bytesFor (stored accepted) x (free (was-passed img c a answered m said)) ∙ sym leaves-so)
 
     pub row-cut : (k : List ℕ) (n : ℕ)
         → encode (after (tables img) c) ≡ bytesFor (cut key k rows)
         → (Passed (questions (tables img) c) → T (isThere (find key k rows)))
-        → (Accepted img → length rows ≤ room)
-        → n ≡ place key k rows
+        → (Accepted img → length rows ≤ cap)
+        → n ≡ insertionIndex key k rows
         → new ≡ withoutRow f counter table n img
         → new ≡ act img c .image
     row-cut k n leaves-so there few found e =
         done (e ∙ ap (λ (i : ℕ). withoutRow f counter table i img) found)
-        (cut-stored f key d table counter room img bytesFor (stored accepted) k (there (was-passed img c a answered m told)) (few accepted) ∙ sym leaves-so)
+        (cut-stored f key d table counter cap img bytesFor (stored accepted) k (there (was-passed img c a answered m said)) (few accepted) ∙ sym leaves-so)
 
 -- an item written anew
-module _ (img : List ℕ) (c : Change) (a : Answer) (answered : a ≡ act img c .answer) (m : ℕ) (told : a ≡ answer 0 m) (bytes : (i : ℕ) → Fits w8 (getD img i 0))
+module _ (img : List ℕ) (c : Change) (a : Answer) (answered : a ≡ act img c .answer) (m : ℕ) (said : a ≡ answer 0 m) (bytes : (i : ℕ) → Fits w8 (getD img i 0))
     (new : List ℕ) where
   pub item-anew : (i : ℕ) (x : ItemRow)
       → after (tables img) c ≡ withItems (tables img) (setItem (tables img .items) i x)
@@ -144,9 +144,9 @@ module _ (img : List ℕ) (c : Change) (a : Answer) (answered : a ≡ act img c 
       → new ≡ act img c .image
   unfolding tablesBy
   item-anew i x leaves-so used e =
-      let accepted : Accepted img = was-accepted img c a answered m told (slice-bytes img bytes) in
-      leaves img c a answered m told new
+      let accepted : Accepted img = was-accepted img c a answered m said (slice-bytes img bytes) in
+      leaves img c a answered m said new
       (e
-      ∙ item-stored (layoutOf img .items) itemsCounter (tables img .room .items) img (λ rows. encode (withItems (tables img) rows)) (items-stored img accepted) i x
-      (used (was-passed img c a answered m told))
+      ∙ item-stored (layoutOf img .items) itemsCounter (tables img .capacities .items) img (λ rows. encode (withItems (tables img) rows)) (items-stored img accepted) i x
+      (used (was-passed img c a answered m said))
       ∙ ap encode (sym leaves-so))

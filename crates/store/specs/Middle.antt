@@ -27,9 +27,9 @@ unfolding insertBytes
 insert-mid u v z q row at end here ends free =
     let uv : length (u ++ v) ≡ end = rw (length-append u v, here) ends in
     let uvz : length (u ++ v ++ z) ≡ end + length row = rw (length-append (u ++ v) z, uv, free) in
-    let parts : u ++ (v ++ (z ++ q)) ≡ u ++ v ++ z ++ q = rw (append-assoc (u ++ v) z q, append-assoc u v (z ++ q)) in
-    let first : take (end + length row) (u ++ (v ++ (z ++ q))) ≡ u ++ v ++ z = rw parts (take-at (u ++ v ++ z) q (end + length row) uvz) in
-    let rest : drop (end + length row) (u ++ (v ++ (z ++ q))) ≡ q = rw parts (drop-at (u ++ v ++ z) q (end + length row) uvz) in
+    let pieces : u ++ (v ++ (z ++ q)) ≡ u ++ v ++ z ++ q = rw (append-assoc (u ++ v) z q, append-assoc u v (z ++ q)) in
+    let first : take (end + length row) (u ++ (v ++ (z ++ q))) ≡ u ++ v ++ z = rw pieces (take-at (u ++ v ++ z) q (end + length row) uvz) in
+    let rest : drop (end + length row) (u ++ (v ++ (z ++ q))) ≡ q = rw pieces (drop-at (u ++ v ++ z) q (end + length row) uvz) in
     let fits : at + length row ≤ length (u ++ v ++ z) = omega arith in
     let front : take at (u ++ v ++ z) ≡ u = rw (append-assoc u v z) (take-at u (v ++ z) at here) in
     let moved : length (u ++ v ++ z) - length row ≡ end = omega arith in
@@ -44,9 +44,9 @@ unfolding removeBytes
 remove-mid u r v q at end n here long ends =
     let ur : length (u ++ r) ≡ at + n = rw (length-append u r, here, long) in
     let urv : length (u ++ r ++ v) ≡ end = rw (length-append (u ++ r) v, ur) ends in
-    let parts : u ++ (r ++ (v ++ q)) ≡ u ++ r ++ v ++ q = rw (append-assoc (u ++ r) v q, append-assoc u r (v ++ q)) in
-    let first : take end (u ++ (r ++ (v ++ q))) ≡ u ++ r ++ v = rw parts (take-at (u ++ r ++ v) q end urv) in
-    let rest : drop end (u ++ (r ++ (v ++ q))) ≡ q = rw parts (drop-at (u ++ r ++ v) q end urv) in
+    let pieces : u ++ (r ++ (v ++ q)) ≡ u ++ r ++ v ++ q = rw (append-assoc (u ++ r) v q, append-assoc u r (v ++ q)) in
+    let first : take end (u ++ (r ++ (v ++ q))) ≡ u ++ r ++ v = rw pieces (take-at (u ++ r ++ v) q end urv) in
+    let rest : drop end (u ++ (r ++ (v ++ q))) ≡ q = rw pieces (drop-at (u ++ r ++ v) q end urv) in
     let fits : at + n ≤ length (u ++ r ++ v) = omega arith in
     let front : take at (u ++ r ++ v) ≡ u = rw (append-assoc u r v) (take-at u (r ++ v) at here) in
     let behind : drop (at + n) (u ++ r ++ v) ≡ v = drop-at (u ++ r) v (at + n) ur in

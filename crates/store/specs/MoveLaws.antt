@@ -11,26 +11,26 @@ use Rattle.model.specs.Image.{bytesOf}
 use Rattle.laws.specs.Fields.{bytes-mod}
 use Rattle.fields.specs.Edits.{putBytes, insertBytes, removeBytes}
 use Rattle.fields.specs.Fitting.{unfit, fit}
-use Rattle.search.specs.declared.Spot.{Spot}
-use Rattle.search.specs.declared.Spot.the-variants.{Over, New}
+use Rattle.search.specs.declared.RowIndex.{RowIndex}
+use Rattle.search.specs.declared.RowIndex.the-variants.{Existing, New}
 use Rattle.store.specs.Moves.{rowAdded, rowTaken, rowStored}
 
 module _ (s : List ℕ) (counter used at end : ℕ) where
-  module _ (row : List ℕ) (places : ℕ) (count : places ≡ length s + 1 - length row) where
-    pub not-added : places ≤ end → s ≡ rowAdded s counter used at end row
+  module _ (row : List ℕ) (offset-count : ℕ) (count : offset-count ≡ length s + 1 - length row) where
+    pub not-added : offset-count ≤ end → s ≡ rowAdded s counter used at end row
     unfolding rowAdded
-    not-added h = unfit s end (length row) places _ _ count h
+    not-added h = unfit s end (length row) offset-count _ _ count h
 
-    pub room-behind : end < places → end + length row ≤ length s
-    room-behind h = omega arith
+    pub fits-behind : end < offset-count → end + length row ≤ length s
+    fits-behind h = omega arith
 
-    pub added : end < places → (q r : List ℕ) (v : ℕ)
+    pub added : end < offset-count → (q r : List ℕ) (v : ℕ)
         → q ≡ insertBytes (take (end + length row) s) at row
         → v ≡ (used + 1) % 2 ^ 32
         → r ≡ putBytes (q ++ drop (end + length row) s) counter (bytesOf 4 v)
         → r ≡ rowAdded s counter used at end row
     unfolding rowAdded
-    added h q r v made raised e = rw (e, made, raised, bytes-mod 4 (used + 1), fit s end (length row) places _ _ count h)
+    added h q r v made raised e = rw (e, made, raised, bytes-mod 4 (used + 1), fit s end (length row) offset-count _ _ count h)
 
   module _ (n : ℕ) where
     pub none-taken : length s < end → s ≡ rowTaken s counter used at end n
@@ -51,11 +51,11 @@ module _ (s : List ℕ) (counter used at end : ℕ) where
         rw (e, made, le-leb end (length s) h, le-leb 1 used one)
 
 -- Over a row or as a new one, as the code does it. n is the number that it was told, at and end the offsets.
-module _ (counter : ℕ) (t : Table) (spot : Spot) (row s new : List ℕ) (n at : ℕ) (here : at ≡ t .start + n * length row) where
-  pub stored-over : spot ≡ Over n → new ≡ putBytes s at row → new ≡ rowStored counter t spot row s
-  stored-over over e = e ∙ rw (over, here)
+module _ (counter : ℕ) (t : Table) (index : RowIndex) (row s new : List ℕ) (n at : ℕ) (here : at ≡ t .start + n * length row) where
+  pub stored-existing : index ≡ Existing n → new ≡ putBytes s at row → new ≡ rowStored counter t index row s
+  stored-existing over e = e ∙ rw (over, here)
 
-  pub stored-new : (end : ℕ) → end ≡ t .start + t .used * length row → spot ≡ New n → new ≡ rowAdded s counter (t .used) at end row → new ≡ rowStored counter t spot row s
+  pub stored-new : (end : ℕ) → end ≡ t .start + t .used * length row → index ≡ New n → new ≡ rowAdded s counter (t .used) at end row → new ≡ rowStored counter t index row s
   stored-new end there fresh e = e ∙ rw (fresh, here, there)
 
 pub row-out : (s new : List ℕ) (counter used start n k at end : ℕ) → at ≡ start + n * k → end ≡ start + used * k → new ≡ rowTaken s counter used at end k

@@ -7,8 +7,8 @@ use lib.ListN.{length, take, drop}
 use Rattle.model.specs.declared.Table.{Table}
 use Rattle.model.specs.Image.{bytesOf}
 use Rattle.fields.specs.Edits.{putBytes, insertBytes, removeBytes}
-use Rattle.search.specs.declared.Spot.{Spot}
-use Rattle.search.specs.declared.Spot.the-variants.{Over, New}
+use Rattle.search.specs.declared.RowIndex.{RowIndex}
+use Rattle.search.specs.declared.RowIndex.the-variants.{Existing, New}
 
 -- the first e bytes of s edited
 abbrev pub inFirst : ℕ → (List ℕ → List ℕ) → List ℕ → List ℕ
@@ -26,6 +26,6 @@ rowTaken s counter used at end n =
     cond (leb end (length s) && leb 1 used) (putBytes (inFirst end (λ p. removeBytes p at n) s) counter (bytesOf 4 (used - 1))) s
 
 -- The bytes of a row stored at a spot of a table whose rows are as long: in the place of those that are there, or put in and counted.
-abbrev pub rowStored : ℕ → Table → Spot → List ℕ → List ℕ → List ℕ
-rowStored counter t (Over n) row s = putBytes s (t .start + n * length row) row
+abbrev pub rowStored : ℕ → Table → RowIndex → List ℕ → List ℕ → List ℕ
+rowStored counter t (Existing n) row s = putBytes s (t .start + n * length row) row
 rowStored counter t (New n) row s = rowAdded s counter (t .used) (t .start + n * length row) (t .start + t .used * length row) row

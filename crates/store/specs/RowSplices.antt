@@ -28,9 +28,9 @@ module _ {A : Type 0} (f : Format A) (law : Lawful f) where
   joined-end : (ys zs : List A) (q : List ℕ) → joined f (ys ++ zs) ++ q ≡ joined f ys ++ (joined f zs ++ q)
   joined-end ys zs q = rw (joined-append ys zs, append-assoc (joined f ys) (joined f zs) q)
 
-  module _ (front back : List Block) (count : length front + length back ≡ 3) (sized : All Sized front) (room : ℕ) where
+  module _ (front back : List Block) (count : length front + length back ≡ 3) (sized : All Sized front) (cap : ℕ) where
     abbrev extent : ℕ
-    extent = room * size f
+    extent = cap * size f
 
     -- the zeros behind n rows, and the bytes with n rows in use
     abbrev gap : ℕ → List ℕ
@@ -49,10 +49,10 @@ module _ {A : Type 0} (f : Format A) (law : Lawful f) where
     freeRow = replicate (size f) 0
 
     -- the zeros behind n rows are a free row and those behind n + 1
-    one-free : (n : ℕ) → n < room → gap n ≡ freeRow ++ gap (n + 1)
+    one-free : (n : ℕ) → n < cap → gap n ≡ freeRow ++ gap (n + 1)
     one-free n less =
         let more : (n + 1) * size f ≡ n * size f + size f = one-more n in
-        let next : n + 1 ≤ room = omega arith in
+        let next : n + 1 ≤ cap = omega arith in
         let within : (n + 1) * size f ≤ extent = mul-le-mul-right (size f) next in
         let sum : extent - n * size f ≡ size f + (extent - (n + 1) * size f) = omega arith in
         ap (λ (m : ℕ). replicate {A = ℕ} m 0) sum ∙ sym (replicate-append-replicate {A = ℕ} (size f) (extent - (n + 1) * size f) 0)
@@ -67,12 +67,12 @@ module _ {A : Type 0} (f : Format A) (law : Lawful f) where
         ∙ joined-length f law (ys ++ zs)
         ∙ ap (λ (m : ℕ). m * size f) (length-append ys zs ∙ all)
 
-    rows-free : (ys zs : List A) (n : ℕ) → n < room → tableBytes n (ys ++ zs) ≡ joined f ys ++ (joined f zs ++ (freeRow ++ gap (n + 1)))
+    rows-free : (ys zs : List A) (n : ℕ) → n < cap → tableBytes n (ys ++ zs) ≡ joined f ys ++ (joined f zs ++ (freeRow ++ gap (n + 1)))
     rows-free ys zs n less = ap (λ (q : List ℕ). joined f (ys ++ zs) ++ q) (one-free n less) ∙ joined-end ys zs (freeRow ++ gap (n + 1))
 
     -- n rows with x among them, and without it.
 
-    added : (ys zs : List A) (x : A) (n : ℕ) → length ys + length zs ≡ n → n < room
+    added : (ys zs : List A) (x : A) (n : ℕ) → length ys + length zs ≡ n → n < cap
         → rowAdded (holding front back extent n (tableBytes n (ys ++ zs))) (counterOf front back) n (rowStart (length ys)) (rowStart n) (rowInBytes f x)
         ≡ holding front back extent (n + 1) (tableBytes (n + 1) (ys ++ x ∷ zs))
     added ys zs x n all less =
@@ -84,7 +84,7 @@ module _ {A : Type 0} (f : Format A) (law : Lawful f) where
         ∙ insert-there front back count sized extent n (joined f ys) (joined f zs) freeRow (gap (n + 1)) (rowInBytes f x) (rowStart n) ends free
         ∙ ap (holding front back extent (n + 1)) (sym (joined-mid ys zs x (gap (n + 1))))
 
-    taken : (ys zs : List A) (x : A) (n : ℕ) → length ys + length zs ≡ n → n < room
+    taken : (ys zs : List A) (x : A) (n : ℕ) → length ys + length zs ≡ n → n < cap
         → rowTaken (holding front back extent (n + 1) (tableBytes (n + 1) (ys ++ x ∷ zs))) (counterOf front back) (n + 1) (rowStart (length ys)) (rowStart (n + 1)) (size f)
         ≡ holding front back extent n (tableBytes n (ys ++ zs))
     taken ys zs x n all less =
@@ -112,7 +112,7 @@ module _ {A : Type 0} (f : Format A) (law : Lawful f) where
     whole xs = holding front back extent (length xs) (tableBytes (length xs) xs)
 
     module _ (xs : List A) (k : ℕ) (x : A) where
-      pub row-added : k ≤ length xs → length xs < room
+      pub row-added : k ≤ length xs → length xs < cap
           → rowAdded (whole xs) (counterOf front back) (length xs) (rowStart k) (rowStart (length xs)) (rowInBytes f x) ≡ whole (take k xs ++ x ∷ drop k xs)
       row-added within less =
           let long : length (take k xs) ≡ k = length-take-le k xs within in
@@ -131,13 +131,13 @@ module _ {A : Type 0} (f : Format A) (law : Lawful f) where
       split : xs ≡ take k xs ++ getD xs k d ∷ drop (suc k) xs
       split = sym (take-append-drop k xs) ∙ ap (λ (l : List A). take k xs ++ l) (drop-cons xs k d within)
 
-      pub row-taken : length xs ≤ room
+      pub row-taken : length xs ≤ cap
           → rowTaken (whole xs) (counterOf front back) (length xs) (rowStart k) (rowStart (length xs)) (size f) ≡ whole (take k xs ++ drop (suc k) xs)
       row-taken few =
           let rest : length (drop (suc k) xs) ≡ length xs - suc k = length-drop (suc k) xs in
           let here : length (take k xs) ≡ k = long in
           let all : length (take k xs) + length (drop (suc k) xs) ≡ length xs - 1 = omega arith in
-          let less : length xs - 1 < room = omega arith in
+          let less : length xs - 1 < cap = omega arith in
           let count-is : length xs ≡ length xs - 1 + 1 = omega arith in
           let new : length xs - 1 ≡ length (take k xs ++ drop (suc k) xs) = sym (length-append (take k xs) (drop (suc k) xs) ∙ all) in
           ap₂ (λ (l : List A) (a : ℕ). rowTaken (holding front back extent (length xs) (tableBytes (length xs) l)) (counterOf front back) (length xs) (rowStart a) (rowStart (length xs)) (size f))

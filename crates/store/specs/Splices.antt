@@ -102,13 +102,13 @@ module _ (front back : List Block) where
         )
         (omega arith)
 
-    two-parts : (n : ℕ) (u r q : List ℕ) → holding extent n (u ++ (r ++ q)) ≡ ahead n ++ u ++ (r ++ (q ++ bodyOf back))
-    two-parts n u r q =
+    two-pieces : (n : ℕ) (u r q : List ℕ) → holding extent n (u ++ (r ++ q)) ≡ ahead n ++ u ++ (r ++ (q ++ bodyOf back))
+    two-pieces n u r q =
         six (words (fieldsOf headerSize front)) (bytesOf 4 n) (between extent) u (r ++ q) (bodyOf back)
         ∙ ap (λ (l : List ℕ). ahead n ++ u ++ l) (append-assoc r q (bodyOf back))
 
-    three-parts : (n : ℕ) (u v z q : List ℕ) → holding extent n (u ++ (v ++ (z ++ q))) ≡ ahead n ++ u ++ (v ++ (z ++ (q ++ bodyOf back)))
-    three-parts n u v z q =
+    three-pieces : (n : ℕ) (u v z q : List ℕ) → holding extent n (u ++ (v ++ (z ++ q))) ≡ ahead n ++ u ++ (v ++ (z ++ (q ++ bodyOf back)))
+    three-pieces n u v z q =
         six (words (fieldsOf headerSize front)) (bytesOf 4 n) (between extent) u (v ++ (z ++ q)) (bodyOf back)
         ∙ ap (λ (l : List ℕ). ahead n ++ u ++ l) (four v z q (bodyOf back))
 
@@ -123,9 +123,9 @@ module _ (front back : List Block) where
     pub put-there : (n : ℕ) (u r q a : List ℕ) → length r ≡ length a
         → putBytes (holding extent n (u ++ (r ++ q))) (startOf + length u) a ≡ holding extent n (u ++ (a ++ q))
     put-there n u r q a long =
-        ap (λ (s : List ℕ). putBytes s (startOf + length u) a) (two-parts n u r q)
+        ap (λ (s : List ℕ). putBytes s (startOf + length u) a) (two-pieces n u r q)
         ∙ put-mid (ahead n ++ u) r (q ++ bodyOf back) a (startOf + length u) (u-ends n u) long
-        ∙ sym (two-parts n u a q)
+        ∙ sym (two-pieces n u a q)
 
     pub insert-there : (n : ℕ) (u v z q row : List ℕ) (end : ℕ) → startOf + length u + length v ≡ end → length z ≡ length row
         → rowAdded (holding extent n (u ++ (v ++ (z ++ q)))) counterOf n (startOf + length u) end row ≡ holding extent (n + 1) (u ++ (row ++ (v ++ q)))
@@ -136,8 +136,8 @@ module _ (front back : List Block) where
         rw (length-append (ahead n ++ u) (v ++ (z ++ (q ++ bodyOf back))), length-append v (z ++ (q ++ bodyOf back)), length-append z (q ++ bodyOf back), u-ends n u) in
         let fits : end + length row ≤ length (ahead n ++ u ++ (v ++ (z ++ (q ++ bodyOf back)))) = omega arith in
         let edited : inFirst (end + length row) (λ p. insertBytes p at row) (ahead n ++ u ++ (v ++ (z ++ (q ++ bodyOf back)))) ≡ holding extent n (u ++ (row ++ (v ++ q))) =
-        insert-mid (ahead n ++ u) v z (q ++ bodyOf back) row at end (u-ends n u) ends free ∙ sym (three-parts n u row v q) in
-        rw (three-parts n u v z q, le-leb (end + length row) (length (ahead n ++ u ++ (v ++ (z ++ (q ++ bodyOf back))))) fits, edited) (recount n (n + 1) (u ++ (row ++ (v ++ q))))
+        insert-mid (ahead n ++ u) v z (q ++ bodyOf back) row at end (u-ends n u) ends free ∙ sym (three-pieces n u row v q) in
+        rw (three-pieces n u v z q, le-leb (end + length row) (length (ahead n ++ u ++ (v ++ (z ++ (q ++ bodyOf back))))) fits, edited) (recount n (n + 1) (u ++ (row ++ (v ++ q))))
 
     pub remove-there : (n : ℕ) (u r v q : List ℕ) (end k : ℕ) → 1 ≤ n → length r ≡ k → startOf + length u + k + length v ≡ end
         → rowTaken (holding extent n (u ++ (r ++ (v ++ q)))) counterOf n (startOf + length u) end k ≡ holding extent (n - 1) (u ++ (v ++ (replicate k 0 ++ q)))
@@ -148,5 +148,5 @@ module _ (front back : List Block) where
         rw (length-append (ahead n ++ u) (r ++ (v ++ (q ++ bodyOf back))), length-append r (v ++ (q ++ bodyOf back)), length-append v (q ++ bodyOf back), u-ends n u) in
         let fits : end ≤ length (ahead n ++ u ++ (r ++ (v ++ (q ++ bodyOf back)))) = omega arith in
         let edited : inFirst end (λ p. removeBytes p at k) (ahead n ++ u ++ (r ++ (v ++ (q ++ bodyOf back)))) ≡ holding extent n (u ++ (v ++ (replicate k 0 ++ q))) =
-        remove-mid (ahead n ++ u) r v (q ++ bodyOf back) at end k (u-ends n u) wide ends ∙ sym (three-parts n u v (replicate k 0) q) in
-        rw (three-parts n u r v q, le-leb end (length (ahead n ++ u ++ (r ++ (v ++ (q ++ bodyOf back))))) fits, le-leb 1 n some, edited) (recount n (n - 1) (u ++ (v ++ (replicate k 0 ++ q))))
+        remove-mid (ahead n ++ u) r v (q ++ bodyOf back) at end k (u-ends n u) wide ends ∙ sym (three-pieces n u v (replicate k 0) q) in
+        rw (three-pieces n u r v q, le-leb end (length (ahead n ++ u ++ (r ++ (v ++ (q ++ bodyOf back))))) fits, le-leb 1 n some, edited) (recount n (n - 1) (u ++ (v ++ (replicate k 0 ++ q))))

@@ -13,8 +13,8 @@ use Rattle.model.specs.declared.ItemRow.{ItemRow}
 use Rattle.model.specs.Image.{Format, size, rowInBytes, itemFormat}
 use Rattle.laws.specs.Rows.{Lawful, row-long}
 use Rattle.fields.specs.Edits.{putBytes}
-use Rattle.search.specs.declared.Spot.{Spot}
-use Rattle.search.specs.declared.Spot.the-variants.{Over, New}
+use Rattle.search.specs.declared.RowIndex.{RowIndex}
+use Rattle.search.specs.declared.RowIndex.the-variants.{Existing, New}
 use Rattle.store.specs.Moves.{rowTaken, rowStored}
 use Rattle.store.specs.Stores.{storedAt, withRow, withoutRow, overItem}
 
@@ -22,22 +22,22 @@ module _ {A : Type 0} (f : Format A) (law : Lawful f) (counter : ℕ) (t : Table
   -- a row written over the first of the bytes z
   row-first : (x : A) (z : List ℕ) → leb (size f) (length z) ≡ true → take (size f) (putBytes z 0 (rowInBytes f x)) ≡ rowInBytes f x
   unfolding putBytes
-  row-first x z room =
+  row-first x z cap =
       let long : length (rowInBytes f x) ≡ size f = row-long f law x in
-      let fits : leb (length (rowInBytes f x)) (length z) ≡ true = rw long room in
+      let fits : leb (length (rowInBytes f x)) (length z) ≡ true = rw long cap in
       rw (zero-add, fits) (take-at (rowInBytes f x) (drop (length (rowInBytes f x)) z) (size f) long)
 
-  pub row-stored : (spot : Spot) (x : A) (z bytes : List ℕ) (n : ℕ)
+  pub row-stored : (index : RowIndex) (x : A) (z bytes : List ℕ) (n : ℕ)
       → n ≡ size f
       → leb (size f) (length z) ≡ true
       → bytes ≡ putBytes z 0 (rowInBytes f x)
-      → new ≡ rowStored counter t spot (take n bytes) s
-      → new ≡ storedAt f counter t spot x s
-  row-stored spot x z bytes n sized room written e =
-      e ∙ ap (λ (b : List ℕ). rowStored counter t spot b s) (rw (sized, written) (row-first x z room)) ∙ go spot
+      → new ≡ rowStored counter t index (take n bytes) s
+      → new ≡ storedAt f counter t index x s
+  row-stored index x z bytes n sized cap written e =
+      e ∙ ap (λ (b : List ℕ). rowStored counter t index b s) (rw (sized, written) (row-first x z cap)) ∙ go index
     where
-      go : (spot : Spot) → rowStored counter t spot (rowInBytes f x) s ≡ storedAt f counter t spot x s
-      go (Over n) = rw (row-long f law x)
+      go : (index : RowIndex) → rowStored counter t index (rowInBytes f x) s ≡ storedAt f counter t index x s
+      go (Existing n) = rw (row-long f law x)
       go (New n) = rw (row-long f law x)
 
   pub row-added : (k : ℕ) (x : A) (z bytes : List ℕ) (n : ℕ)
@@ -56,9 +56,9 @@ module _ (t : Table) (s new : List ℕ) (i : ℕ) (x : ItemRow) where
   pub item-none : i ≡ 0 → s ≡ overItem t i x s
   item-none z = rw z
 
-  pub item-over : (counter : ℕ) → (i ≡ 0 → ⊥) → new ≡ storedAt itemFormat counter t (Over (i - 1)) x s → new ≡ overItem t i x s
+  pub item-over : (counter : ℕ) → (i ≡ 0 → ⊥) → new ≡ storedAt itemFormat counter t (Existing (i - 1)) x s → new ≡ overItem t i x s
   item-over counter some e = e ∙ go i some
     where
-      go : (i : ℕ) → (i ≡ 0 → ⊥) → storedAt itemFormat counter t (Over (i - 1)) x s ≡ overItem t i x s
+      go : (i : ℕ) → (i ≡ 0 → ⊥) → storedAt itemFormat counter t (Existing (i - 1)) x s ≡ overItem t i x s
       go zero h = absurd (h refl)
       go (suc n) h = let same : suc n - 1 ≡ n = omega arith in rw same

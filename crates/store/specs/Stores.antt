@@ -7,8 +7,8 @@ use Rattle.model.specs.declared.Table.{Table}
 use Rattle.model.specs.declared.ItemRow.{ItemRow}
 use Rattle.model.specs.Image.{Format, size, rowInBytes, itemFormat}
 use Rattle.fields.specs.Edits.{putBytes}
-use Rattle.search.specs.declared.Spot.{Spot}
-use Rattle.search.specs.declared.Spot.the-variants.{Over, New}
+use Rattle.search.specs.declared.RowIndex.{RowIndex}
+use Rattle.search.specs.declared.RowIndex.the-variants.{Existing, New}
 use Rattle.store.specs.declared.Storing.{Storing}
 use Rattle.store.specs.declared.Storing.the-variants as store
 use Rattle.store.specs.declared.Removing.{Removing}
@@ -30,20 +30,20 @@ itemsCounter = 24
 
 module _ {A : Type 0} (f : Format A) where
   -- where row n of a table stands
-  abbrev pub rowPlace : Table → ℕ → ℕ
-  rowPlace t n = t .start + n * size f
+  abbrev pub rowOffset : Table → ℕ → ℕ
+  rowOffset t n = t .start + n * size f
 
   -- x put in as row n
   abbrev pub withRow : ℕ → Table → ℕ → A → List ℕ → List ℕ
-  withRow counter t n x s = rowAdded s counter (t .used) (rowPlace t n) (rowPlace t (t .used)) (rowInBytes f x)
+  withRow counter t n x s = rowAdded s counter (t .used) (rowOffset t n) (rowOffset t (t .used)) (rowInBytes f x)
 
   -- row n taken out
   abbrev pub withoutRow : ℕ → Table → ℕ → List ℕ → List ℕ
-  withoutRow counter t n s = rowTaken s counter (t .used) (rowPlace t n) (rowPlace t (t .used)) (size f)
+  withoutRow counter t n s = rowTaken s counter (t .used) (rowOffset t n) (rowOffset t (t .used)) (size f)
 
   -- x in the place of row n
   abbrev pub overRow : Table → ℕ → A → List ℕ → List ℕ
-  overRow t n x s = putBytes s (rowPlace t n) (rowInBytes f x)
+  overRow t n x s = putBytes s (rowOffset t n) (rowInBytes f x)
 
 -- x in the place of item i: item n is row n - 1, and 0 is no item
 abbrev pub overItem : Table → ℕ → ItemRow → List ℕ → List ℕ
@@ -52,15 +52,15 @@ overItem t (suc n) x s = overRow itemFormat t n x s
 
 module _ {A : Type 0} (f : Format A) where
   -- a row stored at a spot
-  abbrev pub storedAt : ℕ → Table → Spot → A → List ℕ → List ℕ
-  storedAt counter t (Over n) x s = overRow f t n x s
+  abbrev pub storedAt : ℕ → Table → RowIndex → A → List ℕ → List ℕ
+  storedAt counter t (Existing n) x s = overRow f t n x s
   storedAt counter t (New n) x s = withRow f counter t n x s
 
 -- What the questions of a call come to: n is the number of the first no. Where there is none, a row that is set goes to its spot, and a row that is removed is the one
 -- with the number that the search told.
 
-abbrev pub storing : ℕ → Spot → Storing
-storing n spot = cond (eqb n 0) (store.At spot) (store.Refused n)
+abbrev pub storing : ℕ → RowIndex → Storing
+storing n index = cond (eqb n 0) (store.At index) (store.Refused n)
 
 abbrev pub removing : ℕ → ℕ → Removing
 removing n row = cond (eqb n 0) (remove.Row row) (remove.Refused n)
@@ -68,7 +68,7 @@ removing n row = cond (eqb n 0) (remove.Row row) (remove.Refused n)
 -- the number of each case
 
 abbrev pub storingNumber : Storing → ℕ
-storingNumber (store.At spot) = 0
+storingNumber (store.At index) = 0
 storingNumber (store.Refused n) = n
 
 abbrev pub removingNumber : Removing → ℕ

@@ -15,7 +15,7 @@ use rows::write::put_grant;
 use rows::write::put_item;
 use rows::write::put_line;
 use rows::write::put_subject;
-use search::Spot;
+use search::RowIndex;
 use sizes::grant_size;
 use sizes::item_size;
 use sizes::line_size;
@@ -25,7 +25,7 @@ mod moves;
 
 // What the questions of a call that sets a row come to: where the row goes, or the number of the refusal.
 pub enum Storing {
-    At(Spot),
+    At(RowIndex),
     Refused(u32),
 }
 
@@ -46,7 +46,7 @@ pub fn add_subject(image: &mut [u8], layout: Layout, row: SubjectRow)
         Layout::SUBJECTS_USED,
         table,
         subject_size(layout),
-        Spot::New(table.used),
+        RowIndex::New(table.used),
         &bytes,
     );
 }
@@ -55,7 +55,7 @@ pub fn add_item(image: &mut [u8], layout: Layout, row: ItemRow)
     ensures { λ _. ⌜ now (image .exit) ≡ withRow itemFormat itemsCounter (layout .items) (layout .items .used) row (now (image .entry)) ⌝ }
 {
     let table = layout.items;
-    store_item(image, layout, Spot::New(table.used), row);
+    store_item(image, layout, RowIndex::New(table.used), row);
 }
 
 // An item's row anew. 0 is no item.
@@ -67,11 +67,11 @@ pub fn replace_item(image: &mut [u8], layout: Layout, item: Item, row: ItemRow)
         return;
     }
     let n = number - 1;
-    store_item(image, layout, Spot::Over(n), row);
+    store_item(image, layout, RowIndex::Existing(n), row);
 }
 
-fn store_item(image: &mut [u8], layout: Layout, spot: Spot, row: ItemRow)
-    ensures { λ _. ⌜ now (image .exit) ≡ storedAt itemFormat itemsCounter (layout .items) spot row (now (image .entry)) ⌝ }
+fn store_item(image: &mut [u8], layout: Layout, index: RowIndex, row: ItemRow)
+    ensures { λ _. ⌜ now (image .exit) ≡ storedAt itemFormat itemsCounter (layout .items) index row (now (image .entry)) ⌝ }
 {
     let mut bytes = [0; ItemRow::SIZE];
     put_item(&mut bytes, layout, 0, row);
@@ -80,13 +80,13 @@ fn store_item(image: &mut [u8], layout: Layout, spot: Spot, row: ItemRow)
         Layout::ITEMS_USED,
         layout.items,
         item_size(layout),
-        spot,
+        index,
         &bytes,
     );
 }
 
-pub fn store_grant(image: &mut [u8], layout: Layout, spot: Spot, row: GrantRow)
-    ensures { λ _. ⌜ now (image .exit) ≡ storedAt (grantFormat (widthOf layout)) grantsCounter (layout .grants) spot row (now (image .entry)) ⌝ }
+pub fn store_grant(image: &mut [u8], layout: Layout, index: RowIndex, row: GrantRow)
+    ensures { λ _. ⌜ now (image .exit) ≡ storedAt (grantFormat (widthOf layout)) grantsCounter (layout .grants) index row (now (image .entry)) ⌝ }
 {
     let mut bytes = [0; GrantRow::SIZE];
     put_grant(&mut bytes, layout, 0, row);
@@ -95,7 +95,7 @@ pub fn store_grant(image: &mut [u8], layout: Layout, spot: Spot, row: GrantRow)
         Layout::GRANTS_USED,
         layout.grants,
         grant_size(layout),
-        spot,
+        index,
         &bytes,
     );
 }
@@ -112,8 +112,8 @@ pub fn take_grant(image: &mut [u8], layout: Layout, n: u32)
     );
 }
 
-pub fn store_line(image: &mut [u8], layout: Layout, spot: Spot, row: LineRow)
-    ensures { λ _. ⌜ now (image .exit) ≡ storedAt (lineFormat (widthOf layout)) linesCounter (layout .lines) spot row (now (image .entry)) ⌝ }
+pub fn store_line(image: &mut [u8], layout: Layout, index: RowIndex, row: LineRow)
+    ensures { λ _. ⌜ now (image .exit) ≡ storedAt (lineFormat (widthOf layout)) linesCounter (layout .lines) index row (now (image .entry)) ⌝ }
 {
     let mut bytes = [0; LineRow::SIZE];
     put_line(&mut bytes, layout, 0, row);
@@ -122,7 +122,7 @@ pub fn store_line(image: &mut [u8], layout: Layout, spot: Spot, row: LineRow)
         Layout::LINES_USED,
         layout.lines,
         line_size(layout),
-        spot,
+        index,
         &bytes,
     );
 }

@@ -4,12 +4,12 @@ ghost use Prim.Native.Nat.{_+_, _*_, _≤_, _<_};
 ghost use lib.ListN.{length, take};
 ghost use Rattle.store.specs.Moves.{rowAdded, rowTaken, rowStored};
 use fields::edits::insert_row;
-use fields::edits::places;
+use fields::edits::offset_count;
 use fields::edits::remove_row;
 use fields::edits::replace_row;
 use fields::numbers::put_field;
 use model::Table;
-use search::Spot;
+use search::RowIndex;
 use std::num::wrapping_add_u32;
 
 // A row of so many bytes stored at a spot. The bytes that are lent begin with it and may be more.
@@ -18,24 +18,24 @@ pub fn store_row(
     counter: usize,
     table: Table,
     size: usize,
-    spot: Spot,
+    index: RowIndex,
     bytes: &[u8],
 )
     requires { ⌜ size ≤ 32 ⌝ }
     requires { ⌜ size ≤ length (now bytes) ⌝ }
-    ensures { λ _. ⌜ now (image .exit) ≡ rowStored counter table spot (take size (now (bytes .entry))) (now (image .entry)) ⌝ }
+    ensures { λ _. ⌜ now (image .exit) ≡ rowStored counter table index (take size (now (bytes .entry))) (now (image .entry)) ⌝ }
 {
-    store_whole(image, counter, table, spot, &bytes[..size]);
+    store_whole(image, counter, table, index, &bytes[..size]);
 }
 
 // Over the row that is there, or put in as a new one.
-fn store_whole(image: &mut [u8], counter: usize, table: Table, spot: Spot, row: &[u8])
+fn store_whole(image: &mut [u8], counter: usize, table: Table, index: RowIndex, row: &[u8])
     requires { ⌜ length (now row) ≤ 32 ⌝ }
-    ensures { λ _. ⌜ now (image .exit) ≡ rowStored counter table spot (now (row .entry)) (now (image .entry)) ⌝ }
+    ensures { λ _. ⌜ now (image .exit) ≡ rowStored counter table index (now (row .entry)) (now (image .entry)) ⌝ }
 {
-    match spot {
-        Spot::Over(n) => replace_row(image, offset_of(table, row.len(), n), row),
-        Spot::New(n) => add_row(
+    match index {
+        RowIndex::Existing(n) => replace_row(image, offset_of(table, row.len(), n), row),
+        RowIndex::New(n) => add_row(
             image,
             counter,
             table.used,
@@ -73,7 +73,7 @@ fn offset_of(table: Table, size: usize, n: u32) -> usize
 fn add_row(image: &mut [u8], counter: usize, used: u32, at: usize, end: usize, row: &[u8])
     ensures { λ _. ⌜ now (image .exit) ≡ rowAdded (now (image .entry)) counter used at end (now (row .entry)) ⌝ }
 {
-    if places(image, row.len()) <= end {
+    if offset_count(image, row.len()) <= end {
         return;
     }
     let behind = end + row.len();

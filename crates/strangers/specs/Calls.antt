@@ -18,7 +18,7 @@ use Rattle.model.specs.Sorted.{find, put, cut}
 use Rattle.model.specs.WhoAndWhat.{custodian, editList, has}
 use Rattle.model.specs.Image.{Tables, grantRow, lineRow, itemRow, subjectRow, grantKey, lineKey, subjectIn, itemIn, itemUsed, isLocked, withList, withOwner}
 use Rattle.model.specs.Permission.{lineIn, grantOf, permissionSet}
-use Rattle.model.specs.Calls.{Change, callerOf, withSubjects, withGrants, withLines, withItems, setItem, stored, after}
+use Rattle.model.specs.Calls.{Change, callerOf, withSubjects, withGrants, withLines, withItems, setItem, newPrivileges, after}
 use Rattle.model.specs.Calls.Change.{defineSubject, setGrant, removeGrant, setLine, removeLine, createItem, bind, handOver}
 use Rattle.model.specs.Questions.{questions, givenBy, mayBind}
 use Rattle.laws.specs.Tests.{and-l, or-cases}
@@ -41,7 +41,7 @@ module _ (t : Tables) (document : ℕ) where
     subject-more : (r : SubjectRow) → Untouched t document (withSubjects u (u .subjects ++ r ∷ []))
     subject-more r =
         record {
-          room-same = same .room-same;
+          capacities-same = same .capacities-same;
           subjects-more = rw length-append (omega (arith, same .subjects-more));
           parents-same = λ s old. cc (kept s old, same .parents-same s old);
           creators-same = λ s old. cc (kept s old, same .creators-same s old);
@@ -58,7 +58,7 @@ module _ (t : Tables) (document : ℕ) where
     grants-anew : (rows : List GrantRow) → All (Given t document) rows → Untouched t document (withGrants u rows)
     grants-anew rows given =
         record {
-          room-same = same .room-same;
+          capacities-same = same .capacities-same;
           subjects-more = same .subjects-more;
           parents-same = same .parents-same;
           creators-same = same .creators-same;
@@ -74,7 +74,7 @@ module _ (t : Tables) (document : ℕ) where
         → Untouched t document (withLines u rows)
     lines-anew rows kept =
         record {
-          room-same = same .room-same;
+          capacities-same = same .capacities-same;
           subjects-more = same .subjects-more;
           parents-same = same .parents-same;
           creators-same = same .creators-same;
@@ -91,7 +91,7 @@ module _ (t : Tables) (document : ℕ) where
         → Untouched t document (withItems u rows)
     items-anew rows more kept =
         record {
-          room-same = same .room-same;
+          capacities-same = same .capacities-same;
           subjects-more = same .subjects-more;
           parents-same = same .parents-same;
           creators-same = same .creators-same;
@@ -146,7 +146,7 @@ module _ (t : Tables) (document : ℕ) where
     -- The eight calls.
     pub untouched-after : (c : Change) → Outsider t document (callerOf c) → Passed (questions u c) → Untouched t document (after u c)
     unfolding questions after
-    untouched-after (defineSubject c r p v) outsider q = subject-more (subjectRow p (stored u c v) c)
+    untouched-after (defineSubject c r p v) outsider q = subject-more (subjectRow p (newPrivileges u c v) c)
     untouched-after (setGrant c s r d v) outsider q =
         grants-anew (put grantKey (grantRow s r c d v) (u .grants))
         (All-put grantKey (Given t document) (grantRow s r c d v) (u .grants)

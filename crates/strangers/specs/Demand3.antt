@@ -8,7 +8,7 @@ use Rattle.model.specs.declared.Opened.the-variants.{With}
 use Rattle.model.specs.Lists.{All}
 use Rattle.model.specs.Image.{Tables, layoutOf, tables, subjectUsed, itemUsed}
 use Rattle.model.specs.Permission.{grantOf, permissionSet}
-use Rattle.model.specs.Calls.{Change, callerOf, Handed, after, told}
+use Rattle.model.specs.Calls.{Change, callerOf, Handed, after, askResult}
 use Rattle.model.specs.Calls.Ask.{permissionSetOf}
 use Rattle.model.specs.Questions.{questions, askQuestions, answer, ask, act, Accepted}
 use Rattle.laws.specs.Tests.{_and_}
@@ -88,7 +88,7 @@ asked-set : (img : List ℕ) (s r i : ℕ)
     → T (subjectUsed (tables img .subjects) s)
     → T (itemUsed (tables img .items) i)
     → ask img (permissionSetOf s r i) ≡ answer 0 (permissionSet (tables img) s r i)
-unfolding askQuestions told
+unfolding askQuestions askResult
 asked-set img s r i accepted subject item =
     sym
     (ask-done img (With (layoutOf img)) (opened-yes img (layoutOf img) refl (sym (accepted .checked))) (permissionSetOf s r i)

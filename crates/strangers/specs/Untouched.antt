@@ -34,7 +34,7 @@ module _ (t : Tables) (document : ℕ) where
   -- The tables have the room that they had. No subject at the stop has gone or has another parent, creator or privileges. No watched item
   -- has changed, nor a line of a followed list. Every grant was given as said.
   pub record Untouched (u : Tables) : Type 0 where
-    pub room-same : u .room ≡ t .room
+    pub capacities-same : u .capacities ≡ t .capacities
     pub subjects-more : length (t .subjects) ≤ length (u .subjects)
     pub parents-same : (s : ℕ) → s < length (t .subjects) → parentIn (u .subjects) s ≡ parentIn (t .subjects) s
     pub creators-same : (s : ℕ) → s < length (t .subjects) → subjectIn (u .subjects) s .creator .0 ≡ subjectIn (t .subjects) s .creator .0
@@ -48,7 +48,7 @@ module _ (t : Tables) (document : ℕ) where
   pub untouched-at-stop : WellFormed t → Untouched t
   untouched-at-stop well =
       record {
-        room-same = refl;
+        capacities-same = refl;
         subjects-more = omega arith;
         parents-same = λ s old. refl;
         creators-same = λ s old. refl;

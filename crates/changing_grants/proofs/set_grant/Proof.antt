@@ -1,6 +1,6 @@
 -- `changing_grants::set_grant` meets its contract: the answer at each return, and by it the image.
 use borrow.Author.Needs.{needs}
-use Rattle.model.specs.Calls.{made}
+use Rattle.model.specs.Calls.{changeResult}
 use Rattle.laws.specs.Opens.{refused-not}
 use Rattle.laws.specs.Acts.{act-image, act-no, act-passed, also, kept}
 use Rattle.store.specs.Calls.{store-number, store-not, store-passed}
@@ -57,7 +57,7 @@ same-length-3 : tie.Need-same-length-3
 same-length-3 c = search needs
 
 returns-3 : tie.Need-returns-3
-unfolding made
+unfolding changeResult
 returns-3 c =
     let opened = c .before .before .before .before .before .before .before .before .before .before .before .before .before .before .«open» .ensures .0 in
     let asked = c .before .before .before .before .before .before .before .before .before .set-grant-storing .ensures .0 in

@@ -1,6 +1,6 @@
 -- `changing_items::bind` meets its contract: the answer at each return, and by it the image.
 use borrow.Author.Needs.{needs}
-use Rattle.model.specs.Calls.{made}
+use Rattle.model.specs.Calls.{changeResult}
 use Rattle.laws.specs.Opens.{refused-not}
 use Rattle.laws.specs.Acts.{act-image, act-no, act-done, also, kept}
 use Rattle.changing_items.specs.Items.{item-bound}
@@ -47,7 +47,7 @@ same-length-3 : tie.Need-same-length-3
 same-length-3 c = search needs
 
 returns-3 : tie.Need-returns-3
-unfolding made
+unfolding changeResult
 returns-3 c = also _ _ _ _ (search act-done) (λ h. search item-bound)
 
 pub bind-spec : {M : Type 1} → statement M

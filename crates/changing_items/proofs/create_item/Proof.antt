@@ -2,7 +2,7 @@
 use borrow.Author.Needs.{needs}
 use Rattle.laws.specs.Opens.{refused-not}
 use Rattle.laws.specs.Acts.{act-image, act-no, act-done, also, kept}
-use Rattle.changing_items.specs.Items.{made-item, number-fits, item-created}
+use Rattle.changing_items.specs.Items.{result-item, number-fits, item-created}
 use Rattle.changing_items.proofs.create_item.Statement.{statement}
 use Rattle.changing_items.proofs.create_item.Tie as tie
 
@@ -52,7 +52,7 @@ same-length-3 : tie.Need-same-length-3
 same-length-3 c = search needs
 
 returns-3 : tie.Need-returns-3
-returns-3 c = also _ _ _ _ (search (act-done, made-item)) (λ h. search item-created)
+returns-3 c = also _ _ _ _ (search (act-done, result-item)) (λ h. search item-created)
 
 pub create-item-spec : {M : Type 1} → statement M
 create-item-spec =

@@ -1,6 +1,6 @@
 -- `changing_lines::remove_line` meets its contract: the answer at each return, and by it the image.
 use borrow.Author.Needs.{needs}
-use Rattle.model.specs.Calls.{made}
+use Rattle.model.specs.Calls.{changeResult}
 use Rattle.laws.specs.Opens.{refused-not}
 use Rattle.laws.specs.Acts.{act-image, act-no, act-passed, also, kept}
 use Rattle.store.specs.Calls.{remove-number, remove-not, remove-passed}
@@ -54,7 +54,7 @@ same-length-3 : tie.Need-same-length-3
 same-length-3 c = search needs
 
 returns-3 : tie.Need-returns-3
-unfolding made
+unfolding changeResult
 returns-3 c = also _ _ _ _ (search (act-passed, remove-passed)) (λ h. search line-cut)
 
 pub remove-line-spec : {M : Type 1} → statement M

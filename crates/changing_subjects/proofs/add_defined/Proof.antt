@@ -4,8 +4,8 @@ use Rattle.changing_subjects.specs.Subjects.{defined-row}
 use Rattle.changing_subjects.proofs.add_defined.Statement.{statement}
 use Rattle.changing_subjects.proofs.add_defined.Tie as tie
 
-kept-privileges-requires : tie.Need-kept-privileges-requires
-kept-privileges-requires c κs = search needs
+new-privileges-requires : tie.Need-new-privileges-requires
+new-privileges-requires c κs = search needs
 
 new-requires : tie.Need-new-requires
 new-requires c κs = search needs
@@ -22,4 +22,4 @@ returns c = search defined-row
 pub add-defined-spec : {M : Type 1} → statement M
 add-defined-spec =
     tie.close
-    (tie.spec kept-privileges-requires new-requires add-subject-requires same-length returns)
+    (tie.spec new-privileges-requires new-requires add-subject-requires same-length returns)

@@ -2,7 +2,7 @@
 use borrow.Author.Needs.{needs}
 use Rattle.laws.specs.Opens.{refused-not}
 use Rattle.laws.specs.Acts.{act-image, act-no, act-done, also, kept}
-use Rattle.changing_subjects.specs.Subjects.{made-subject, defined}
+use Rattle.changing_subjects.specs.Subjects.{result-subject, defined}
 use Rattle.changing_subjects.proofs.define_subject.Statement.{statement}
 use Rattle.changing_subjects.proofs.define_subject.Tie as tie
 
@@ -46,7 +46,7 @@ same-length-3 : tie.Need-same-length-3
 same-length-3 c = search needs
 
 returns-3 : tie.Need-returns-3
-returns-3 c = also _ _ _ _ (search (act-done, made-subject)) (λ h. search defined)
+returns-3 c = also _ _ _ _ (search (act-done, result-subject)) (λ h. search defined)
 
 pub define-subject-spec : {M : Type 1} → statement M
 define-subject-spec =

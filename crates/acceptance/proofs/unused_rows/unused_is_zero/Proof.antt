@@ -2,12 +2,12 @@
 use borrow.Author.Needs.{needs}
 use Rattle.model.specs.Image.{unusedRules}
 use Rattle.laws.specs.Tests.{and-no, and-yes, and-last, said-no, said-yes}
-use Rattle.acceptance.specs.Zeros.{from-place}
+use Rattle.acceptance.specs.Zeros.{from-offset}
 use Rattle.acceptance.proofs.unused_rows.unused_is_zero.Statement.{statement}
 use Rattle.acceptance.proofs.unused_rows.unused_is_zero.Tie as tie
 
-subject-place-requires : tie.Need-subject-place-requires
-subject-place-requires c κs = search needs
+subject-offset-requires : tie.Need-subject-offset-requires
+subject-offset-requires c κs = search needs
 
 cast-zero-between : tie.Need-cast-zero-between
 cast-zero-between c = search needs
@@ -17,10 +17,10 @@ zero-between-requires c κs = search needs
 
 returns : tie.Need-returns
 unfolding unusedRules
-returns c = search (and-no, said-no, from-place)
+returns c = search (and-no, said-no, from-offset)
 
-grant-place-requires : tie.Need-grant-place-requires
-grant-place-requires c κs = search needs
+grant-offset-requires : tie.Need-grant-offset-requires
+grant-offset-requires c κs = search needs
 
 cast-zero-between-2 : tie.Need-cast-zero-between-2
 cast-zero-between-2 c = search needs
@@ -30,10 +30,10 @@ zero-between-requires-2 c κs = search needs
 
 returns-2 : tie.Need-returns-2
 unfolding unusedRules
-returns-2 c = search (and-yes, and-no, said-no, said-yes, from-place)
+returns-2 c = search (and-yes, and-no, said-no, said-yes, from-offset)
 
-line-place-requires : tie.Need-line-place-requires
-line-place-requires c κs = search needs
+line-offset-requires : tie.Need-line-offset-requires
+line-offset-requires c κs = search needs
 
 cast-zero-between-3 : tie.Need-cast-zero-between-3
 cast-zero-between-3 c = search needs
@@ -43,10 +43,10 @@ zero-between-requires-3 c κs = search needs
 
 returns-3 : tie.Need-returns-3
 unfolding unusedRules
-returns-3 c = search (and-yes, and-no, said-no, said-yes, from-place)
+returns-3 c = search (and-yes, and-no, said-no, said-yes, from-offset)
 
-item-place-requires : tie.Need-item-place-requires
-item-place-requires c κs = search needs
+item-offset-requires : tie.Need-item-offset-requires
+item-offset-requires c κs = search needs
 
 cast-zero-between-4 : tie.Need-cast-zero-between-4
 cast-zero-between-4 c = search needs
@@ -56,25 +56,25 @@ zero-between-requires-4 c κs = search needs
 
 returns-4 : tie.Need-returns-4
 unfolding unusedRules
-returns-4 c = search (and-yes, and-last, said-yes, from-place)
+returns-4 c = search (and-yes, and-last, said-yes, from-offset)
 
 pub unused-is-zero-spec : {M : Type 1} → statement M
 unused-is-zero-spec =
     tie.close
     (tie.spec
-    subject-place-requires
+    subject-offset-requires
     cast-zero-between
     zero-between-requires
     returns
-    grant-place-requires
+    grant-offset-requires
     cast-zero-between-2
     zero-between-requires-2
     returns-2
-    line-place-requires
+    line-offset-requires
     cast-zero-between-3
     zero-between-requires-3
     returns-3
-    item-place-requires
+    item-offset-requires
     cast-zero-between-4
     zero-between-requires-4
     returns-4)

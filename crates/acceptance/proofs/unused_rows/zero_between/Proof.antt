@@ -2,7 +2,7 @@
 use mathlib.Core.Logic.{⊎-elim}
 use native.Mathlib.Omega.{arith}
 use borrow.Author.Needs.{needs}
-use Rattle.acceptance.specs.Zeros.{none-before, none-behind, part-before, part-behind}
+use Rattle.acceptance.specs.Zeros.{none-before, none-behind, slice-before, slice-behind}
 use Rattle.acceptance.proofs.unused_rows.zero_between.Statement.{statement}
 use Rattle.acceptance.proofs.unused_rows.zero_between.Tie as tie
 
@@ -22,7 +22,7 @@ is-zero-requires : tie.Need-is-zero-requires
 is-zero-requires c κs = search needs
 
 returns-2 : tie.Need-returns-2
-returns-2 c = ⊎-elim (λ w. search part-before) (λ w. search part-behind) (c .before .before .before .before .if1 .came)
+returns-2 c = ⊎-elim (λ w. search slice-before) (λ w. search slice-behind) (c .before .before .before .before .if1 .came)
 
 pub zero-between-spec : {M : Type 1} → statement M
 zero-between-spec =

@@ -26,11 +26,11 @@ slice-aggregate-result-2 c = search needs
 returns-2 : tie.Need-returns-2
 returns-2 c = (search no-bytes, (refl, search no-at))
 
-line-place-requires : tie.Need-line-place-requires
-line-place-requires c κs = search needs
+line-offset-requires : tie.Need-line-offset-requires
+line-offset-requires c κs = search needs
 
-line-place-requires-2 : tie.Need-line-place-requires-2
-line-place-requires-2 c κs = search needs
+line-offset-requires-2 : tie.Need-line-offset-requires-2
+line-offset-requires-2 c κs = search needs
 
 sub-result : tie.Need-sub-result
 sub-result c = search needs
@@ -55,8 +55,8 @@ lines-of-spec =
     returns
     slice-aggregate-result-2
     returns-2
-    line-place-requires
-    line-place-requires-2
+    line-offset-requires
+    line-offset-requires-2
     sub-result
     part-result-start
     part-result-end

@@ -2,7 +2,7 @@
 use borrow.Author.Needs.{needs}
 use Rattle.laws.specs.Answers.{asked-no, asked-yes, asked-all}
 use Rattle.laws.specs.Asks.{ask-image, ask-no, ask-done}
-use Rattle.model.specs.Calls.{told}
+use Rattle.model.specs.Calls.{askResult}
 use Rattle.model.specs.Questions.{askQuestions}
 use Rattle.asking.proofs.sets.operation_set.Statement.{statement}
 use Rattle.asking.proofs.sets.operation_set.Tie as tie
@@ -39,7 +39,7 @@ done-requires : tie.Need-done-requires
 done-requires c κs = search needs
 
 returns-3 : tie.Need-returns-3
-unfolding askQuestions told
+unfolding askQuestions askResult
 returns-3 c = search (ask-done, asked-yes, asked-all)
 
 pub operation-set-spec : {M : Type 1} → statement M

@@ -2,7 +2,7 @@
 use borrow.Author.Needs.{needs}
 use Rattle.laws.specs.Answers.{asked-no, asked-yes, asked-all}
 use Rattle.laws.specs.Asks.{ask-image, ask-no, ask-done}
-use Rattle.model.specs.Calls.{told}
+use Rattle.model.specs.Calls.{askResult}
 use Rattle.model.specs.Questions.{askQuestions}
 use Rattle.asking.proofs.sets.permission_set.Statement.{statement}
 use Rattle.asking.proofs.sets.permission_set.Tie as tie
@@ -49,7 +49,7 @@ done-requires : tie.Need-done-requires
 done-requires c κs = search needs
 
 returns-4 : tie.Need-returns-4
-unfolding askQuestions told
+unfolding askQuestions askResult
 returns-4 c = search (ask-done, asked-yes, asked-all)
 
 pub permission-set-spec : {M : Type 1} → statement M

@@ -2,7 +2,7 @@
 use borrow.Author.Needs.{needs}
 use Rattle.model.specs.Questions.{questions}
 use Rattle.laws.specs.Answers.{tested-no, tested-yes, asked-no, asked-yes, asked-all}
-use Rattle.search.specs.SpotLaws.{over-place, over-is-there, new-missing}
+use Rattle.search.specs.RowIndexLaws.{existing-index, existing-is-there, new-missing}
 use Rattle.store.specs.Calls.{remove-also, remove-refused, remove-at}
 use Rattle.changing_grants.specs.Questions.{no-role, a-role, remove-found}
 use Rattle.changing_grants.proofs.questions.remove_grant_removing.Statement.{statement}
@@ -26,11 +26,11 @@ returns-3 : tie.Need-returns-3
 unfolding questions
 returns-3 c = remove-also _ _ _ (search (remove-refused, asked-yes, tested-no, no-role))
 
-grant-spot-requires : tie.Need-grant-spot-requires
-grant-spot-requires c κs = search needs
+grant-index-requires : tie.Need-grant-index-requires
+grant-index-requires c κs = search needs
 
-enum-known-spot : tie.Need-enum-known-spot
-enum-known-spot c = search needs
+enum-known-index : tie.Need-enum-known-index
+enum-known-index c = search needs
 
 enum-told : tie.Need-enum-told
 enum-told c = search needs
@@ -44,11 +44,11 @@ may-remove-requires c κs = search needs
 
 returns-5 : tie.Need-returns-5
 unfolding questions
-returns-5 c = remove-also _ _ _ (search (remove-refused, asked-yes, tested-yes, a-role, asked-no, over-is-there, remove-found) depth 10)
+returns-5 c = remove-also _ _ _ (search (remove-refused, asked-yes, tested-yes, a-role, asked-no, existing-is-there, remove-found) depth 10)
 
 returns-6 : tie.Need-returns-6
 unfolding questions
-returns-6 c = remove-also _ _ _ (search (remove-at, asked-yes, tested-yes, a-role, asked-all, over-is-there, over-place, remove-found) depth 10)
+returns-6 c = remove-also _ _ _ (search (remove-at, asked-yes, tested-yes, a-role, asked-all, existing-is-there, existing-index, remove-found) depth 10)
 
 pub remove-grant-removing-spec : {M : Type 1} → statement M
 remove-grant-removing-spec =
@@ -59,8 +59,8 @@ remove-grant-removing-spec =
     subject-used-requires-2
     returns-2
     returns-3
-    grant-spot-requires
-    enum-known-spot
+    grant-index-requires
+    enum-known-index
     enum-told
     returns-4
     may-remove-requires

@@ -2,8 +2,8 @@
 use borrow.Author.Needs.{needs}
 use Rattle.model.specs.Questions.{questions}
 use Rattle.laws.specs.Answers.{tested-no, tested-yes, asked-all}
-use Rattle.search.specs.SpotLaws.{over-place, over-is-there, new-missing}
-use Rattle.store.specs.Calls.{remove-also, remove-refused, remove-told, remove-at}
+use Rattle.search.specs.RowIndexLaws.{existing-index, existing-is-there, new-missing}
+use Rattle.store.specs.Calls.{remove-also, remove-refused, remove-handed-on, remove-at}
 use Rattle.changing_lines.specs.Questions.{named-no, named-yes, right-no, right-yes}
 use Rattle.changing_lines.proofs.questions.remove_line_removing.Statement.{statement}
 use Rattle.changing_lines.proofs.questions.remove_line_removing.Tie as tie
@@ -13,7 +13,7 @@ named-refusal-requires c κs = search needs
 
 returns : tie.Need-returns
 unfolding questions
-returns c = remove-also _ _ _ (search (remove-told, named-no))
+returns c = remove-also _ _ _ (search (remove-handed-on, named-no))
 
 needed-position-requires : tie.Need-needed-position-requires
 needed-position-requires c κs = search needs
@@ -28,18 +28,18 @@ returns-2 : tie.Need-returns-2
 unfolding questions
 returns-2 c = remove-also _ _ _ (search (remove-refused, named-yes, right-no))
 
-line-spot-requires : tie.Need-line-spot-requires
-line-spot-requires c κs = search needs
+line-index-requires : tie.Need-line-index-requires
+line-index-requires c κs = search needs
 
-enum-known-spot : tie.Need-enum-known-spot
-enum-known-spot c = search needs
+enum-known-index : tie.Need-enum-known-index
+enum-known-index c = search needs
 
 enum-told : tie.Need-enum-told
 enum-told c = search needs
 
 returns-3 : tie.Need-returns-3
 unfolding questions
-returns-3 c = remove-also _ _ _ (search (remove-at, named-yes, right-yes, tested-yes, asked-all, over-is-there, over-place))
+returns-3 c = remove-also _ _ _ (search (remove-at, named-yes, right-yes, tested-yes, asked-all, existing-is-there, existing-index))
 
 returns-4 : tie.Need-returns-4
 unfolding questions
@@ -55,8 +55,8 @@ remove-line-removing-spec =
     permissions-requires
     has-requires
     returns-2
-    line-spot-requires
-    enum-known-spot
+    line-index-requires
+    enum-known-index
     enum-told
     returns-3
     returns-4)

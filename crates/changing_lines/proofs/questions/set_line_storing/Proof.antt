@@ -3,8 +3,8 @@ use borrow.Author.Needs.{needs}
 use Rattle.model.specs.Image.{tablesBy}
 use Rattle.model.specs.Questions.{questions}
 use Rattle.laws.specs.Answers.{asked-no, asked-yes, asked-all}
-use Rattle.search.specs.SpotLaws.{place-found}
-use Rattle.store.specs.Calls.{store-also, store-refused, store-told, store-at}
+use Rattle.search.specs.RowIndexLaws.{index-found}
+use Rattle.store.specs.Calls.{store-also, store-refused, store-handed-on, store-at}
 use Rattle.changing_lines.specs.Questions.{named-no, named-yes, right-no, right-yes}
 use Rattle.changing_lines.proofs.questions.set_line_storing.Statement.{statement}
 use Rattle.changing_lines.proofs.questions.set_line_storing.Tie as tie
@@ -14,7 +14,7 @@ named-refusal-requires c κs = search needs
 
 returns : tie.Need-returns
 unfolding questions
-returns c = store-also _ _ _ (search (store-told, named-no))
+returns c = store-also _ _ _ (search (store-handed-on, named-no))
 
 needed-position-requires : tie.Need-needed-position-requires
 needed-position-requires c κs = search needs
@@ -29,19 +29,19 @@ returns-2 : tie.Need-returns-2
 unfolding questions
 returns-2 c = store-also _ _ _ (search (store-refused, named-yes, right-no))
 
-line-spot-requires : tie.Need-line-spot-requires
-line-spot-requires c κs = search needs
+line-index-requires : tie.Need-line-index-requires
+line-index-requires c κs = search needs
 
-has-room-requires : tie.Need-has-room-requires
-has-room-requires c κs = search needs
+has-capacity-requires : tie.Need-has-capacity-requires
+has-capacity-requires c κs = search needs
 
 returns-3 : tie.Need-returns-3
 unfolding questions tablesBy
-returns-3 c = store-also _ _ _ (search (store-refused, named-yes, right-yes, asked-no, place-found))
+returns-3 c = store-also _ _ _ (search (store-refused, named-yes, right-yes, asked-no, index-found))
 
 returns-4 : tie.Need-returns-4
 unfolding questions tablesBy
-returns-4 c = store-also _ _ _ (search (store-at, named-yes, right-yes, asked-yes, asked-all, place-found))
+returns-4 c = store-also _ _ _ (search (store-at, named-yes, right-yes, asked-yes, asked-all, index-found))
 
 pub set-line-storing-spec : {M : Type 1} → statement M
 set-line-storing-spec =
@@ -53,7 +53,7 @@ set-line-storing-spec =
     permissions-requires
     has-requires
     returns-2
-    line-spot-requires
-    has-room-requires
+    line-index-requires
+    has-capacity-requires
     returns-3
     returns-4)

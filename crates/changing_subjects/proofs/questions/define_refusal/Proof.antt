@@ -3,7 +3,7 @@ use borrow.Author.Needs.{needs}
 use Rattle.model.specs.Image.{tablesBy}
 use Rattle.model.specs.Questions.{questions}
 use Rattle.laws.specs.Answers.{asked-no, asked-yes, asked-all}
-use Rattle.tables.specs.Rooms.{row-free}
+use Rattle.tables.specs.Capacities.{row-free}
 use Rattle.changing_subjects.specs.Questions.{named-no, named-yes, right-claimed, reach-claimed}
 use Rattle.changing_subjects.proofs.questions.define_refusal.Statement.{statement}
 use Rattle.changing_subjects.proofs.questions.define_refusal.Tie as tie

@@ -6,8 +6,8 @@ use Rattle.fields.specs.EditLaws.{inserted}
 use Rattle.fields.proofs.edits.insert_row.Statement.{statement}
 use Rattle.fields.proofs.edits.insert_row.Tie as tie
 
-places-requires : tie.Need-places-requires
-places-requires c κs = search needs
+offset-count-requires : tie.Need-offset-count-requires
+offset-count-requires c κs = search needs
 
 same-length : tie.Need-same-length
 same-length c = search needs
@@ -32,7 +32,7 @@ pub insert-row-spec : {M : Type 1} → statement M
 insert-row-spec =
     tie.close
     (tie.spec
-    places-requires
+    offset-count-requires
     same-length
     returns
     shift-up-requires

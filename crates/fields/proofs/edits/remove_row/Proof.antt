@@ -6,8 +6,8 @@ use Rattle.fields.specs.EditLaws.{removed}
 use Rattle.fields.proofs.edits.remove_row.Statement.{statement}
 use Rattle.fields.proofs.edits.remove_row.Tie as tie
 
-places-requires : tie.Need-places-requires
-places-requires c κs = search needs
+offset-count-requires : tie.Need-offset-count-requires
+offset-count-requires c κs = search needs
 
 same-length : tie.Need-same-length
 same-length c = search needs
@@ -16,8 +16,8 @@ returns : tie.Need-returns
 unfolding removeBytes
 returns c = search unfit
 
-sub-kept : tie.Need-sub-kept
-sub-kept c = search needs
+sub-remaining : tie.Need-sub-remaining
+sub-remaining c = search needs
 
 shift-down-requires : tie.Need-shift-down-requires
 shift-down-requires c κs = search needs
@@ -35,10 +35,10 @@ pub remove-row-spec : {M : Type 1} → statement M
 remove-row-spec =
     tie.close
     (tie.spec
-    places-requires
+    offset-count-requires
     same-length
     returns
-    sub-kept
+    sub-remaining
     shift-down-requires
     clear-from-requires
     same-length-2

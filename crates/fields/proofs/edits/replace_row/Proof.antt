@@ -6,8 +6,8 @@ use Rattle.fields.specs.EditLaws.{replaced}
 use Rattle.fields.proofs.edits.replace_row.Statement.{statement}
 use Rattle.fields.proofs.edits.replace_row.Tie as tie
 
-places-requires : tie.Need-places-requires
-places-requires c κs = search needs
+offset-count-requires : tie.Need-offset-count-requires
+offset-count-requires c κs = search needs
 
 same-length : tie.Need-same-length
 same-length c = search needs
@@ -28,4 +28,4 @@ returns-2 c = search replaced
 pub replace-row-spec : {M : Type 1} → statement M
 replace-row-spec =
     tie.close
-    (tie.spec places-requires same-length returns copy-in-requires same-length-2 returns-2)
+    (tie.spec offset-count-requires same-length returns copy-in-requires same-length-2 returns-2)

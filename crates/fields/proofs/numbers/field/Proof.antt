@@ -6,8 +6,8 @@ use Rattle.fields.specs.FieldLaws.{field-read}
 use Rattle.fields.proofs.numbers.field.Statement.{statement}
 use Rattle.fields.proofs.numbers.field.Tie as tie
 
-places-requires : tie.Need-places-requires
-places-requires c κs = search needs
+offset-count-requires : tie.Need-offset-count-requires
+offset-count-requires c κs = search needs
 
 returns : tie.Need-returns
 unfolding fieldAt
@@ -44,7 +44,7 @@ pub field-spec : {M : Type 1} → statement M
 field-spec =
     tie.close
     (tie.spec
-    places-requires
+    offset-count-requires
     returns
     shared-slice-read-lowest
     add-low

@@ -9,7 +9,7 @@ use Rattle.permission.proofs.lines.group_index.Reads as group-index
 use Rattle.permission.proofs.lines.group_index.Kinds as group-index-kinds
 use Rattle.permission.proofs.lines.+group_index.Lts-group_index as group-index-lts
 use Rattle.permission.proofs.lines.climbing_layout.Reads as climbing-layout-reads
-use Rattle.search.proofs.lines.line_spot.Reads as line-spot-reads
+use Rattle.search.proofs.lines.line_index.Reads as line-index-reads
 use Rattle.tables.proofs.subjects.parent_of.Reads as parent-of-reads
 use Rattle.permission.proofs.lines.+group_index.{statement}
 use Rattle.permission.proofs.lines.+group_index.Tie.{close}
@@ -30,8 +30,8 @@ group-index-climbing-layout-requires : (t : ℕ) → group-index-lts.Need-climbi
   climbing-layout-reads.Learnt,
   parent-of-reads.Asked,
   parent-of-reads.Learnt,
-  line-spot-reads.Asked,
-  line-spot-reads.Learnt,
+  line-index-reads.Asked,
+  line-index-reads.Learnt,
   group-index-below t,
   group-index.Post,
 ) (group-index-at t) group-index.Post
@@ -42,8 +42,8 @@ group-index-parent-of-requires : (t : ℕ) → group-index-lts.Need-parent-of-re
   climbing-layout-reads.Learnt,
   parent-of-reads.Asked,
   parent-of-reads.Learnt,
-  line-spot-reads.Asked,
-  line-spot-reads.Learnt,
+  line-index-reads.Asked,
+  line-index-reads.Learnt,
   group-index-below t,
   group-index.Post,
 ) (group-index-at t) group-index.Post
@@ -54,44 +54,44 @@ group-index-returns : (t : ℕ) → group-index-lts.Need-returns (
   climbing-layout-reads.Learnt,
   parent-of-reads.Asked,
   parent-of-reads.Learnt,
-  line-spot-reads.Asked,
-  line-spot-reads.Learnt,
+  line-index-reads.Asked,
+  line-index-reads.Learnt,
   group-index-below t,
   group-index.Post,
 ) (group-index-at t) group-index.Post
 group-index-returns t c = search climb-out
 
-group-index-line-spot-requires : (t : ℕ) → group-index-lts.Need-line-spot-requires (
+group-index-line-index-requires : (t : ℕ) → group-index-lts.Need-line-index-requires (
   climbing-layout-reads.Asked,
   climbing-layout-reads.Learnt,
   parent-of-reads.Asked,
   parent-of-reads.Learnt,
-  line-spot-reads.Asked,
-  line-spot-reads.Learnt,
+  line-index-reads.Asked,
+  line-index-reads.Learnt,
   group-index-below t,
   group-index.Post,
 ) (group-index-at t) group-index.Post
-group-index-line-spot-requires t c κs = search needs
+group-index-line-index-requires t c κs = search needs
 
-group-index-enum-known-spot : (t : ℕ) → group-index-lts.Need-enum-known-spot (
+group-index-enum-known-index : (t : ℕ) → group-index-lts.Need-enum-known-index (
   climbing-layout-reads.Asked,
   climbing-layout-reads.Learnt,
   parent-of-reads.Asked,
   parent-of-reads.Learnt,
-  line-spot-reads.Asked,
-  line-spot-reads.Learnt,
+  line-index-reads.Asked,
+  line-index-reads.Learnt,
   group-index-below t,
   group-index.Post,
 ) (group-index-at t) group-index.Post
-group-index-enum-known-spot t c = search needs
+group-index-enum-known-index t c = search needs
 
 group-index-enum-told : (t : ℕ) → group-index-lts.Need-enum-told (
   climbing-layout-reads.Asked,
   climbing-layout-reads.Learnt,
   parent-of-reads.Asked,
   parent-of-reads.Learnt,
-  line-spot-reads.Asked,
-  line-spot-reads.Learnt,
+  line-index-reads.Asked,
+  line-index-reads.Learnt,
   group-index-below t,
   group-index.Post,
 ) (group-index-at t) group-index.Post
@@ -102,8 +102,8 @@ group-index-group-index-requires : (t : ℕ) → group-index-lts.Need-group-inde
   climbing-layout-reads.Learnt,
   parent-of-reads.Asked,
   parent-of-reads.Learnt,
-  line-spot-reads.Asked,
-  line-spot-reads.Learnt,
+  line-index-reads.Asked,
+  line-index-reads.Learnt,
   group-index-below t,
   group-index.Post,
 ) (group-index-at t) group-index.Post
@@ -114,8 +114,8 @@ group-index-returns-2 : (t : ℕ) → group-index-lts.Need-returns-2 (
   climbing-layout-reads.Learnt,
   parent-of-reads.Asked,
   parent-of-reads.Learnt,
-  line-spot-reads.Asked,
-  line-spot-reads.Learnt,
+  line-index-reads.Asked,
+  line-index-reads.Learnt,
   group-index-below t,
   group-index.Post,
 ) (group-index-at t) group-index.Post
@@ -126,8 +126,8 @@ group-index-returns-3 : (t : ℕ) → group-index-lts.Need-returns-3 (
   climbing-layout-reads.Learnt,
   parent-of-reads.Asked,
   parent-of-reads.Learnt,
-  line-spot-reads.Asked,
-  line-spot-reads.Learnt,
+  line-index-reads.Asked,
+  line-index-reads.Learnt,
   group-index-below t,
   group-index.Post,
 ) (group-index-at t) group-index.Post
@@ -139,8 +139,8 @@ pub +group-index-spec : {M : Type 1} → statement M
   climbing-layout-reads.Learnt,
   parent-of-reads.Asked,
   parent-of-reads.Learnt,
-  line-spot-reads.Asked,
-  line-spot-reads.Learnt,
+  line-index-reads.Asked,
+  line-index-reads.Learnt,
   group-index-below t,
   group-index.Post,
 )
@@ -149,8 +149,8 @@ pub +group-index-spec : {M : Type 1} → statement M
     (group-index-climbing-layout-requires t)
     (group-index-parent-of-requires t)
     (group-index-returns t)
-    (group-index-line-spot-requires t)
-    (group-index-enum-known-spot t)
+    (group-index-line-index-requires t)
+    (group-index-enum-known-index t)
     (group-index-enum-told t)
     (group-index-group-index-requires t)
     (group-index-returns-2 t)

@@ -4,7 +4,7 @@ use native.Mathlib.Omega.{arith}
 use borrow.Author.Needs.{needs}
 use lib.ListN.{length, drop}
 use Rattle.reporting.specs.Pages.{Put}
-use Rattle.reporting.specs.Texts.{tail-none, tail-room, tail-one, tail-all}
+use Rattle.reporting.specs.Texts.{tail-none, tail-fits, tail-one, tail-all}
 use Rattle.reporting.proofs.text.put_bytes.Statement.{statement}
 use Rattle.reporting.proofs.text.put_bytes.Tie as tie
 
@@ -24,7 +24,7 @@ shared-slice-read-put-byte : tie.Need-shared-slice-read-put-byte Inv-loop μ-loo
 shared-slice-read-put-byte c = omega arith
 
 put-byte-requires : tie.Need-put-byte-requires Inv-loop μ-loop
-put-byte-requires c κs = (search tail-room, omega arith)
+put-byte-requires c κs = (search tail-fits, omega arith)
 
 loop-less : tie.Need-loop-less Inv-loop μ-loop
 loop-less c = omega arith

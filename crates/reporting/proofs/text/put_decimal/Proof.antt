@@ -1,7 +1,7 @@
 -- `reporting::text::put_decimal` meets its contract: the last digit, and then each turn the digit in front of those that are there.
 use native.Mathlib.Omega.{arith}
 use borrow.Author.Needs.{needs}
-use Rattle.reporting.specs.Texts.{Spelt, spelt-none, spelt-room, spelt-one, number-put, number-short}
+use Rattle.reporting.specs.Texts.{Spelt, spelt-none, spelt-fits, spelt-one, number-put, number-short}
 use Rattle.reporting.proofs.text.put_decimal.Statement.{statement}
 use Rattle.reporting.proofs.text.put_decimal.Tie as tie
 
@@ -24,7 +24,7 @@ last-digit-requires-2 : tie.Need-last-digit-requires-2 Inv-loop μ-loop
 last-digit-requires-2 c κs = search needs
 
 put-byte-requires-2 : tie.Need-put-byte-requires-2 Inv-loop μ-loop
-put-byte-requires-2 c κs = (search spelt-room, omega arith)
+put-byte-requires-2 c κs = (search spelt-fits, omega arith)
 
 loop-less : tie.Need-loop-less Inv-loop μ-loop
 loop-less c = omega arith

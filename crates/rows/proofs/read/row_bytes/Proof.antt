@@ -20,8 +20,8 @@ mul-at c = record { fits = omega (arith, product-near (c .before .before .before
 add-at : tie.Need-add-at
 add-at c = record { fits = omega (arith, product-near (c .before .before .before .before .args .n) (c .before .before .before .before .args .size) (search needs)) }
 
-places-requires : tie.Need-places-requires
-places-requires c κs = search needs
+offset-count-requires : tie.Need-offset-count-requires
+offset-count-requires c κs = search needs
 
 slice-aggregate-result-2 : tie.Need-slice-aggregate-result-2
 slice-aggregate-result-2 c = search needs
@@ -53,7 +53,7 @@ row-bytes-spec =
     cast-at
     mul-at
     add-at
-    places-requires
+    offset-count-requires
     slice-aggregate-result-2
     returns-2
     add-end

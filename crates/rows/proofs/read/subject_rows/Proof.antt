@@ -13,8 +13,8 @@ slice-aggregate-result c = search needs
 returns : tie.Need-returns
 returns c = search rows-none
 
-subject-place-requires : tie.Need-subject-place-requires
-subject-place-requires c κs = search needs
+subject-offset-requires : tie.Need-subject-offset-requires
+subject-offset-requires c κs = search needs
 
 sub-result : tie.Need-sub-result
 sub-result c = search needs
@@ -47,7 +47,7 @@ subject-rows-spec =
     cast-start
     slice-aggregate-result
     returns
-    subject-place-requires
+    subject-offset-requires
     sub-result
     part-result-start
     part-result-end

@@ -12,8 +12,8 @@ use Rattle.rows.proofs.write.put_grant.Tie as tie
 grant-size-requires : tie.Need-grant-size-requires
 grant-size-requires c κs = search needs
 
-places-requires : tie.Need-places-requires
-places-requires c κs = search needs
+offset-count-requires : tie.Need-offset-count-requires
+offset-count-requires c κs = search needs
 
 same-length : tie.Need-same-length
 same-length c = search needs
@@ -67,7 +67,7 @@ put-grant-spec =
     tie.close
     (tie.spec
     grant-size-requires
-    places-requires
+    offset-count-requires
     same-length
     returns
     add-at-role

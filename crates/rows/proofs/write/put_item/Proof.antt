@@ -11,8 +11,8 @@ use Rattle.rows.proofs.write.put_item.Tie as tie
 item-size-requires : tie.Need-item-size-requires
 item-size-requires c κs = search needs
 
-places-requires : tie.Need-places-requires
-places-requires c κs = search needs
+offset-count-requires : tie.Need-offset-count-requires
+offset-count-requires c κs = search needs
 
 same-length : tie.Need-same-length
 same-length c = search needs
@@ -51,7 +51,7 @@ put-item-spec =
     tie.close
     (tie.spec
     item-size-requires
-    places-requires
+    offset-count-requires
     same-length
     returns
     add-at-list

@@ -12,8 +12,8 @@ use Rattle.rows.proofs.write.put_line.Tie as tie
 line-size-requires : tie.Need-line-size-requires
 line-size-requires c κs = search needs
 
-places-requires : tie.Need-places-requires
-places-requires c κs = search needs
+offset-count-requires : tie.Need-offset-count-requires
+offset-count-requires c κs = search needs
 
 same-length : tie.Need-same-length
 same-length c = search needs
@@ -60,7 +60,7 @@ put-line-spec =
     tie.close
     (tie.spec
     line-size-requires
-    places-requires
+    offset-count-requires
     same-length
     returns
     add-at-kind

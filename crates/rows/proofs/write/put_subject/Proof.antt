@@ -12,8 +12,8 @@ use Rattle.rows.proofs.write.put_subject.Tie as tie
 subject-size-requires : tie.Need-subject-size-requires
 subject-size-requires c κs = search needs
 
-places-requires : tie.Need-places-requires
-places-requires c κs = search needs
+offset-count-requires : tie.Need-offset-count-requires
+offset-count-requires c κs = search needs
 
 same-length : tie.Need-same-length
 same-length c = search needs
@@ -57,7 +57,7 @@ put-subject-spec =
     tie.close
     (tie.spec
     subject-size-requires
-    places-requires
+    offset-count-requires
     same-length
     returns
     add-at-privileges

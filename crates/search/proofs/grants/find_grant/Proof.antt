@@ -1,12 +1,12 @@
 -- `search::grants::find_grant` meets its contract: a search is a look at the key's sorted place.
 use borrow.Author.Needs.{needs}
 use Rattle.model.specs.Image.{tablesBy}
-use Rattle.search.specs.Ranks.{found-past, found-other, found-row}
+use Rattle.search.specs.Insertion.{found-past, found-other, found-row}
 use Rattle.search.proofs.grants.find_grant.Statement.{statement}
 use Rattle.search.proofs.grants.find_grant.Tie as tie
 
-grant-rank-requires : tie.Need-grant-rank-requires
-grant-rank-requires c κs = search needs
+grant-insertion-index-requires : tie.Need-grant-insertion-index-requires
+grant-insertion-index-requires c κs = search needs
 
 returns : tie.Need-returns
 unfolding tablesBy
@@ -29,4 +29,4 @@ returns-3 c = search found-row
 pub find-grant-spec : {M : Type 1} → statement M
 find-grant-spec =
     tie.close
-    (tie.spec grant-rank-requires returns grant-at-requires is-grant-requires returns-2 returns-3)
+    (tie.spec grant-insertion-index-requires returns grant-at-requires is-grant-requires returns-2 returns-3)

@@ -1,12 +1,12 @@
 -- `search::lines::find_line` meets its contract: a search is a look at the key's sorted place.
 use borrow.Author.Needs.{needs}
 use Rattle.model.specs.Image.{tablesBy}
-use Rattle.search.specs.Ranks.{found-past, found-other, found-row}
+use Rattle.search.specs.Insertion.{found-past, found-other, found-row}
 use Rattle.search.proofs.lines.find_line.Statement.{statement}
 use Rattle.search.proofs.lines.find_line.Tie as tie
 
-line-rank-requires : tie.Need-line-rank-requires
-line-rank-requires c κs = search needs
+line-insertion-index-requires : tie.Need-line-insertion-index-requires
+line-insertion-index-requires c κs = search needs
 
 returns : tie.Need-returns
 unfolding tablesBy
@@ -29,4 +29,4 @@ returns-3 c = search found-row
 pub find-line-spec : {M : Type 1} → statement M
 find-line-spec =
     tie.close
-    (tie.spec line-rank-requires returns line-at-requires is-line-requires returns-2 returns-3)
+    (tie.spec line-insertion-index-requires returns line-at-requires is-line-requires returns-2 returns-3)

@@ -1,12 +1,12 @@
 -- `add_row` meets its contract: one law for each return; the part that is lent ends inside the image.
 use borrow.Author.Needs.{needs}
 use lib.Seq.{length-take-le}
-use Rattle.store.specs.MoveLaws.{not-added, room-behind, added}
+use Rattle.store.specs.MoveLaws.{not-added, fits-behind, added}
 use Rattle.store.proofs.moves.add_row.Statement.{statement}
 use Rattle.store.proofs.moves.add_row.Tie as tie
 
-places-requires : tie.Need-places-requires
-places-requires c κs = search needs
+offset-count-requires : tie.Need-offset-count-requires
+offset-count-requires c κs = search needs
 
 same-length : tie.Need-same-length
 same-length c = search needs
@@ -21,7 +21,7 @@ slice-relend-prefix-insert-row : tie.Need-slice-relend-prefix-insert-row
 slice-relend-prefix-insert-row c = search needs
 
 slice-aggregate-insert-row : tie.Need-slice-aggregate-insert-row
-slice-aggregate-insert-row c = search (needs, length-take-le, room-behind)
+slice-aggregate-insert-row c = search (needs, length-take-le, fits-behind)
 
 insert-row-requires : tie.Need-insert-row-requires
 insert-row-requires c κs = search needs
@@ -42,7 +42,7 @@ pub add-row-spec : {M : Type 1} → statement M
 add-row-spec =
     tie.close
     (tie.spec
-    places-requires
+    offset-count-requires
     same-length
     returns
     add-behind

@@ -1,11 +1,11 @@
 -- `store::moves::store_whole` meets its contract: one end for each kind of spot.
 use borrow.Author.Needs.{needs}
-use Rattle.store.specs.MoveLaws.{stored-over, stored-new}
+use Rattle.store.specs.MoveLaws.{stored-existing, stored-new}
 use Rattle.store.proofs.moves.store_whole.Statement.{statement}
 use Rattle.store.proofs.moves.store_whole.Tie as tie
 
-enum-known-spot : tie.Need-enum-known-spot
-enum-known-spot c = search needs
+enum-known-index : tie.Need-enum-known-index
+enum-known-index c = search needs
 
 offset-of-requires : tie.Need-offset-of-requires
 offset-of-requires c κs = search needs
@@ -13,8 +13,8 @@ offset-of-requires c κs = search needs
 replace-row-requires : tie.Need-replace-row-requires
 replace-row-requires c κs = search needs
 
-enum-known-spot-2 : tie.Need-enum-known-spot-2
-enum-known-spot-2 c = search needs
+enum-known-index-2 : tie.Need-enum-known-index-2
+enum-known-index-2 c = search needs
 
 offset-of-requires-2 : tie.Need-offset-of-requires-2
 offset-of-requires-2 c κs = search needs
@@ -29,7 +29,7 @@ same-length : tie.Need-same-length
 same-length c = search needs
 
 returns : tie.Need-returns
-returns c = search stored-over
+returns c = search stored-existing
 
 same-length-2 : tie.Need-same-length-2
 same-length-2 c = search needs
@@ -41,10 +41,10 @@ pub store-whole-spec : {M : Type 1} → statement M
 store-whole-spec =
     tie.close
     (tie.spec
-    enum-known-spot
+    enum-known-index
     offset-of-requires
     replace-row-requires
-    enum-known-spot-2
+    enum-known-index-2
     offset-of-requires-2
     offset-of-requires-3
     add-row-requires

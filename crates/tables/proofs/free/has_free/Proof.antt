@@ -1,11 +1,11 @@
 -- `tables::free::has_free` meets its contract: a table that ends before it starts has room for no row.
 use borrow.Author.Needs.{needs}
-use Rattle.tables.specs.Rooms.{no-room}
+use Rattle.tables.specs.Capacities.{no-capacity}
 use Rattle.tables.proofs.free.has_free.Statement.{statement}
 use Rattle.tables.proofs.free.has_free.Tie as tie
 
 returns : tie.Need-returns
-returns c = search no-room
+returns c = search no-capacity
 
 cast-extent : tie.Need-cast-extent
 cast-extent c = search needs

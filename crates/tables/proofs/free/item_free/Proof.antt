@@ -1,6 +1,6 @@
 -- `tables::free::item_free` meets its contract: the size that was told is the format's.
 use borrow.Author.Needs.{needs}
-use Rattle.tables.specs.Rooms.{free-sized}
+use Rattle.tables.specs.Capacities.{free-sized}
 use Rattle.tables.proofs.free.item_free.Statement.{statement}
 use Rattle.tables.proofs.free.item_free.Tie as tie
 

@@ -1,8 +1,8 @@
--- `asking::lines::count_lines` meets its contract: the number, and as many as there are rows shown.
+-- `asking::lines::list_count` meets its contract: the number, and as many as there are rows shown.
 use borrow.Author.Needs.{needs}
 use Rattle.asking.specs.Shown.{rows-ordered, count-refused, count-done}
-use Rattle.asking.proofs.lines.count_lines.Statement.{statement}
-use Rattle.asking.proofs.lines.count_lines.Tie as tie
+use Rattle.asking.proofs.lines.list_count.Statement.{statement}
+use Rattle.asking.proofs.lines.list_count.Tie as tie
 
 shown-rows-requires : tie.Need-shown-rows-requires
 shown-rows-requires c κs = search needs
@@ -28,8 +28,8 @@ returns c = search count-done
 returns-2 : tie.Need-returns-2
 returns-2 c = search count-refused
 
-pub count-lines-spec : {M : Type 1} → statement M
-count-lines-spec =
+pub list-count-spec : {M : Type 1} → statement M
+list-count-spec =
     tie.close
     (tie.spec
     shown-rows-requires

@@ -1,12 +1,12 @@
--- `search::lines::line_rank` meets its contract: the rows passed all have a lower key.
+-- `search::lines::line_insertion_index` meets its contract: the rows passed all have a lower key.
 use mathlib.Core.List.{[], _∷_}
 use Prim.Native.Nat.{_-_, _<_}
 use native.Mathlib.Omega.{arith}
 use borrow.Author.Needs.{needs}
 use Rattle.model.specs.Image.{tablesBy, widthOf, lineFormat, lineKey, noLine}
-use Rattle.search.specs.Ranks.{Counted, none-counted, counted-here, counted-next, counted-all}
-use Rattle.search.proofs.lines.line_rank.Statement.{statement}
-use Rattle.search.proofs.lines.line_rank.Tie as tie
+use Rattle.search.specs.Insertion.{Counted, none-counted, counted-here, counted-next, counted-all}
+use Rattle.search.proofs.lines.line_insertion_index.Statement.{statement}
+use Rattle.search.proofs.lines.line_insertion_index.Tie as tie
 
 abbrev Inv-loop : tie.InvT-loop
 Inv-loop image layout list kind subject used n₀ n = Counted (lineFormat (widthOf layout)) lineKey (layout .lines) image (list .0 ∷ kind ∷ subject .0 ∷ []) noLine n
@@ -44,8 +44,8 @@ returns-2 : tie.Need-returns-2 Inv-loop μ-loop
 unfolding tablesBy
 returns-2 c = search counted-all
 
-pub line-rank-spec : {M : Type 1} → statement M
-line-rank-spec =
+pub line-insertion-index-spec : {M : Type 1} → statement M
+line-insertion-index-spec =
     tie.close
     (tie.spec
     Inv-loop

@@ -1,12 +1,12 @@
--- `search::grants::grant_rank` meets its contract: the rows passed all have a lower key.
+-- `search::grants::grant_insertion_index` meets its contract: the rows passed all have a lower key.
 use mathlib.Core.List.{[], _∷_}
 use Prim.Native.Nat.{_-_, _<_}
 use native.Mathlib.Omega.{arith}
 use borrow.Author.Needs.{needs}
 use Rattle.model.specs.Image.{tablesBy, widthOf, grantFormat, grantKey, noGrant}
-use Rattle.search.specs.Ranks.{Counted, none-counted, counted-here, counted-next, counted-all}
-use Rattle.search.proofs.grants.grant_rank.Statement.{statement}
-use Rattle.search.proofs.grants.grant_rank.Tie as tie
+use Rattle.search.specs.Insertion.{Counted, none-counted, counted-here, counted-next, counted-all}
+use Rattle.search.proofs.grants.grant_insertion_index.Statement.{statement}
+use Rattle.search.proofs.grants.grant_insertion_index.Tie as tie
 
 abbrev Inv-loop : tie.InvT-loop
 Inv-loop image layout receiver role used n₀ n = Counted (grantFormat (widthOf layout)) grantKey (layout .grants) image (receiver .0 ∷ role .0 ∷ []) noGrant n
@@ -44,8 +44,8 @@ returns-2 : tie.Need-returns-2 Inv-loop μ-loop
 unfolding tablesBy
 returns-2 c = search counted-all
 
-pub grant-rank-spec : {M : Type 1} → statement M
-grant-rank-spec =
+pub grant-insertion-index-spec : {M : Type 1} → statement M
+grant-insertion-index-spec =
     tie.close
     (tie.spec
     Inv-loop

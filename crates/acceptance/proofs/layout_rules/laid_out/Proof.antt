@@ -2,8 +2,8 @@
 use borrow.Author.Needs.{needs}
 use borrow.Author.Tests.{le-leb, lt-leb, eq-eqb, ne-eqb}
 use Rattle.laws.specs.Tests.{and-no, and-yes, and-last}
-use Rattle.acceptance.proofs.layout_rules.lies.Statement.{statement}
-use Rattle.acceptance.proofs.layout_rules.lies.Tie as tie
+use Rattle.acceptance.proofs.layout_rules.laid_out.Statement.{statement}
+use Rattle.acceptance.proofs.layout_rules.laid_out.Tie as tie
 
 returns : tie.Need-returns
 returns c = search (and-no, lt-leb)
@@ -26,6 +26,6 @@ div-result c = search needs
 returns-3 : tie.Need-returns-3
 returns-3 c = search (and-yes, and-last, le-leb, eq-eqb)
 
-pub lies-spec : {M : Type 1} → statement M
-lies-spec =
+pub laid-out-spec : {M : Type 1} → statement M
+laid-out-spec =
     tie.close (tie.spec returns cast-extent rem-if2 returns-2 cast-result div-result returns-3)

@@ -1,8 +1,8 @@
--- `asking::lines::lines_start` meets its contract: the place of the first row where there are rows, and else 0.
+-- `asking::lines::list_start` meets its contract: the place of the first row where there are rows, and else 0.
 use borrow.Author.Needs.{needs}
 use Rattle.asking.specs.Shown.{refused-start, no-start, starts-at}
-use Rattle.asking.proofs.lines.lines_start.Statement.{statement}
-use Rattle.asking.proofs.lines.lines_start.Tie as tie
+use Rattle.asking.proofs.lines.list_start.Statement.{statement}
+use Rattle.asking.proofs.lines.list_start.Tie as tie
 
 shown-rows-requires : tie.Need-shown-rows-requires
 shown-rows-requires c κs = search needs
@@ -19,14 +19,14 @@ returns c = search refused-start
 returns-2 : tie.Need-returns-2
 returns-2 c = search no-start
 
-line-place-requires : tie.Need-line-place-requires
-line-place-requires c κs = search needs
+line-offset-requires : tie.Need-line-offset-requires
+line-offset-requires c κs = search needs
 
 returns-3 : tie.Need-returns-3
 returns-3 c = search starts-at
 
-pub lines-start-spec : {M : Type 1} → statement M
-lines-start-spec =
+pub list-start-spec : {M : Type 1} → statement M
+list-start-spec =
     tie.close
     (tie.spec
     shown-rows-requires
@@ -34,5 +34,5 @@ lines-start-spec =
     enum-told
     returns
     returns-2
-    line-place-requires
+    line-offset-requires
     returns-3)

@@ -9,16 +9,16 @@ use borrow.Author.Tests.{le-ltb}
 use lib.Dec.{ltb}
 use lib.ListN.{length}
 use Rattle.model.specs.declared.Table.{Table}
-use Rattle.model.specs.Image.{Format, roomBy, rowsIn}
+use Rattle.model.specs.Image.{Format, capacityBy, rowsIn}
 use Rattle.laws.specs.Rows.{rows-count}
 
-pub no-room : (t : Table) (n : ℕ) → t .end < t .start → false ≡ ltb (t .used) (roomBy n t)
-no-room t n h =
+pub no-capacity : (t : Table) (n : ℕ) → t .end < t .start → false ≡ ltb (t .used) (capacityBy n t)
+no-capacity t n h =
     let none : t .end - t .start ≡ 0 = omega arith in
     sym (rw (none, zero-div n) (le-ltb (t .used) 0 (omega arith)))
 
-pub free-sized : (t : Table) (n m : ℕ) (b : Bool) → b ≡ ltb (t .used) (roomBy n t) → n ≡ m → b ≡ ltb (t .used) (roomBy m t)
-free-sized t n m b told sized = told ∙ ap (λ (k : ℕ). ltb (t .used) (roomBy k t)) sized
+pub free-sized : (t : Table) (n m : ℕ) (b : Bool) → b ≡ ltb (t .used) (capacityBy n t) → n ≡ m → b ≡ ltb (t .used) (capacityBy m t)
+free-sized t n m b said sized = said ∙ ap (λ (k : ℕ). ltb (t .used) (capacityBy k t)) sized
 
 -- a table's used rows counted by its layout and by the rows themselves
 pub row-free : {A : Type 0} (f : Format A) (t : Table) (img : List ℕ) (n : ℕ) (b : Bool) → b ≡ ltb (t .used) n → b ≡ ltb (length (rowsIn f t img)) n

@@ -1,8 +1,8 @@
--- `asking::sets::check_image` meets its contract: opened, there is nothing more to ask.
+-- `asking::sets::check` meets its contract: opened, there is nothing more to ask.
 use borrow.Author.Needs.{needs}
 use Rattle.laws.specs.Asks.{ask-image, check-done}
-use Rattle.asking.proofs.sets.check_image.Statement.{statement}
-use Rattle.asking.proofs.sets.check_image.Tie as tie
+use Rattle.asking.proofs.sets.check.Statement.{statement}
+use Rattle.asking.proofs.sets.check.Tie as tie
 
 open-requires : tie.Need-open-requires
 open-requires c κs = search needs
@@ -25,8 +25,8 @@ returns c = search check-done
 returns-2 : tie.Need-returns-2
 returns-2 c = search ask-image
 
-pub check-image-spec : {M : Type 1} → statement M
-check-image-spec =
+pub check-spec : {M : Type 1} → statement M
+check-spec =
     tie.close
     (tie.spec
     open-requires

@@ -1,0 +1,33 @@
+-- `search::grants::grant_index` meets its contract: a search is a look at the key's sorted place.
+use borrow.Author.Needs.{needs}
+use Rattle.search.specs.RowIndexLaws.{index-new, index-read}
+use Rattle.model.specs.Image.{tablesBy}
+use Rattle.search.specs.Insertion.{found-past, found-other}
+use Rattle.search.proofs.grants.grant_index.Statement.{statement}
+use Rattle.search.proofs.grants.grant_index.Tie as tie
+
+grant-insertion-index-requires : tie.Need-grant-insertion-index-requires
+grant-insertion-index-requires c κs = search needs
+
+returns : tie.Need-returns
+unfolding tablesBy
+returns c = search (index-new, found-past)
+
+grant-at-requires : tie.Need-grant-at-requires
+grant-at-requires c κs = search needs
+
+is-grant-requires : tie.Need-is-grant-requires
+is-grant-requires c κs = search needs
+
+returns-2 : tie.Need-returns-2
+unfolding tablesBy
+returns-2 c = search (index-new, found-other)
+
+returns-3 : tie.Need-returns-3
+unfolding tablesBy
+returns-3 c = search index-read
+
+pub grant-index-spec : {M : Type 1} → statement M
+grant-index-spec =
+    tie.close
+    (tie.spec grant-insertion-index-requires returns grant-at-requires is-grant-requires returns-2 returns-3)
