@@ -1,7 +1,8 @@
 // Questions 3 to 6: the rules of the rows, table by table. Each pass ends at the first row that breaks one. A climb stands behind the test that its number
 // is in use, so that its length is bounded by the table.
 ghost use mathlib.Core.Path.{_≡_};
-ghost use Rattle.model.specs.Image.{tablesBy, widthOf, itemIn, subjectsHold, itemsHold, linesHold, grantsHold, custodianRules, itemRules, lineRules, grantRules};
+ghost use Rattle.model.specs.Image.{tablesBy, widthOf, itemIn, subjectsHold, itemsHold, linesHold, grantsHold};
+ghost use Rattle.model.specs.Image.{custodianRules, itemRules, lineRules, grantRules};
 ghost use Rattle.acceptance.specs.SubjectRows.{rulesAmong};
 use model::GrantRow;
 use model::Item;
@@ -94,7 +95,8 @@ pub fn items_hold(image: &[u8], layout: Layout) -> bool
 }
 
 fn item_fits(image: &[u8], layout: Layout, item: Item) -> bool
-    ensures { λ r. ⌜ r ≡ itemRules (tablesBy layout (now (image .entry)) .subjects) (tablesBy layout (now (image .entry)) .items) (item .0) (itemIn (tablesBy layout (now (image .entry)) .items) (item .0)) ⌝ }
+    ensures { λ r. let t = tablesBy layout (now (image .entry)) in
+        ⌜ r ≡ itemRules (t .subjects) (t .items) (item .0) (itemIn (t .items) (item .0)) ⌝ }
 {
     let row = item_at(image, layout, item);
     if !subject_used(image, layout, row.owner) {
@@ -130,7 +132,8 @@ pub fn lines_hold(image: &[u8], layout: Layout) -> bool
 }
 
 fn line_fits(image: &[u8], layout: Layout, row: LineRow) -> bool
-    ensures { λ r. ⌜ r ≡ lineRules (tablesBy layout (now (image .entry)) .subjects) (tablesBy layout (now (image .entry)) .items) row ⌝ }
+    ensures { λ r. let t = tablesBy layout (now (image .entry)) in
+        ⌜ r ≡ lineRules (t .subjects) (t .items) row ⌝ }
 {
     if !is_list(image, layout, row.list) {
         return false;

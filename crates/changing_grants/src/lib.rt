@@ -28,7 +28,8 @@ pub fn set_grant(
     privileges: Privileges,
 ) -> Answer
     ensures { λ r. ⌜ r ≡ act (now (image .entry)) (setGrant (caller .0) (receiver .0) (role .0) (domain .0) privileges) .answer ⌝ }
-    ensures { λ _. ⌜ now (image .exit) ≡ act (now (image .entry)) (setGrant (caller .0) (receiver .0) (role .0) (domain .0) privileges) .image ⌝ }
+    ensures { λ _. ⌜ now (image .exit)
+        ≡ act (now (image .entry)) (setGrant (caller .0) (receiver .0) (role .0) (domain .0) privileges) .image ⌝ }
 {
     let opened = open(image);
     let layout = match opened {

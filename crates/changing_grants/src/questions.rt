@@ -37,8 +37,11 @@ pub fn set_grant_storing(
     domain: Subject,
     privileges: Privileges,
 ) -> Storing
-    ensures { λ r. ⌜ r ≡ storing (firstNo (questions (tablesBy layout (now (image .entry))) (setGrant (caller .0) (receiver .0) (role .0) (domain .0) privileges))) (rowIndex grantKey (receiver .0 ∷ role .0 ∷ []) (tablesBy layout (now (image .entry)) .grants)) ⌝ }
-    ensures { λ r. ⌜ storingNumber r ≡ firstNo (questions (tablesBy layout (now (image .entry))) (setGrant (caller .0) (receiver .0) (role .0) (domain .0) privileges)) ⌝ }
+    ensures { λ r. let t = tablesBy layout (now (image .entry)) in
+        ⌜ r ≡ storing (firstNo (questions t (setGrant (caller .0) (receiver .0) (role .0) (domain .0) privileges)))
+        (rowIndex grantKey (receiver .0 ∷ role .0 ∷ []) (t .grants)) ⌝ }
+    ensures { λ r. let t = tablesBy layout (now (image .entry)) in
+        ⌜ storingNumber r ≡ firstNo (questions t (setGrant (caller .0) (receiver .0) (role .0) (domain .0) privileges)) ⌝ }
 {
     let number = named_refusal(image, layout, caller, receiver, role, domain, privileges);
     if number != 0 {
@@ -67,7 +70,8 @@ fn named_refusal(
     domain: Subject,
     privileges: Privileges,
 ) -> u32
-    ensures { λ r. ⌜ r ≡ firstNo (take 4 (questions (tablesBy layout (now (image .entry))) (setGrant (caller .0) (receiver .0) (role .0) (domain .0) privileges))) ⌝ }
+    ensures { λ r. let t = tablesBy layout (now (image .entry)) in
+        ⌜ r ≡ firstNo (take 4 (questions t (setGrant (caller .0) (receiver .0) (role .0) (domain .0) privileges))) ⌝ }
 {
     if !subject_used(image, layout, caller) {
         return refusal::CALLER;
@@ -92,8 +96,11 @@ pub fn remove_grant_removing(
     receiver: Subject,
     role: Role,
 ) -> Removing
-    ensures { λ r. ⌜ r ≡ removing (firstNo (questions (tablesBy layout (now (image .entry))) (removeGrant (caller .0) (receiver .0) (role .0)))) (insertionIndex grantKey (receiver .0 ∷ role .0 ∷ []) (tablesBy layout (now (image .entry)) .grants)) ⌝ }
-    ensures { λ r. ⌜ removingNumber r ≡ firstNo (questions (tablesBy layout (now (image .entry))) (removeGrant (caller .0) (receiver .0) (role .0))) ⌝ }
+    ensures { λ r. let t = tablesBy layout (now (image .entry)) in
+        ⌜ r ≡ removing (firstNo (questions t (removeGrant (caller .0) (receiver .0) (role .0))))
+        (insertionIndex grantKey (receiver .0 ∷ role .0 ∷ []) (t .grants)) ⌝ }
+    ensures { λ r. let t = tablesBy layout (now (image .entry)) in
+        ⌜ removingNumber r ≡ firstNo (questions t (removeGrant (caller .0) (receiver .0) (role .0))) ⌝ }
 {
     if !subject_used(image, layout, caller) {
         return Removing::Refused(refusal::CALLER);

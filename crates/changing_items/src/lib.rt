@@ -83,14 +83,18 @@ pub fn hand_over(image: &mut [u8], caller: Subject, item: Item, owner: Subject) 
 }
 
 fn put_list(image: &mut [u8], layout: Layout, item: Item, list: Item)
-    ensures { λ _. ⌜ now (image .exit) ≡ overItem (layout .items) (item .0) (withList (itemIn (tablesBy layout (now (image .entry)) .items) (item .0)) (list .0)) (now (image .entry)) ⌝ }
+    ensures { λ _. let t = tablesBy layout (now (image .entry)) in
+        ⌜ now (image .exit)
+        ≡ overItem (layout .items) (item .0) (withList (itemIn (t .items) (item .0)) (list .0)) (now (image .entry)) ⌝ }
 {
     let row = item_at(image, layout, item);
     replace_item(image, layout, item, row.with_list(list));
 }
 
 fn put_owner(image: &mut [u8], layout: Layout, item: Item, owner: Subject)
-    ensures { λ _. ⌜ now (image .exit) ≡ overItem (layout .items) (item .0) (withOwner (itemIn (tablesBy layout (now (image .entry)) .items) (item .0)) (owner .0)) (now (image .entry)) ⌝ }
+    ensures { λ _. let t = tablesBy layout (now (image .entry)) in
+        ⌜ now (image .exit)
+        ≡ overItem (layout .items) (item .0) (withOwner (itemIn (t .items) (item .0)) (owner .0)) (now (image .entry)) ⌝ }
 {
     let row = item_at(image, layout, item);
     replace_item(image, layout, item, row.with_owner(owner));

@@ -56,7 +56,8 @@ fn named_refusal(
     list: Item,
     flags: u32,
 ) -> u32
-    ensures { λ r. ⌜ r ≡ firstNo (take 3 (questions (tablesBy layout (now (image .entry))) (createItem (caller .0) (role .0) (list .0) flags))) ⌝ }
+    ensures { λ r. let t = tablesBy layout (now (image .entry)) in
+        ⌜ r ≡ firstNo (take 3 (questions t (createItem (caller .0) (role .0) (list .0) flags))) ⌝ }
 {
     if !subject_used(image, layout, caller) {
         return refusal::CALLER;

@@ -30,7 +30,8 @@ pub fn set_line(
     privileges: Privileges,
 ) -> Answer
     ensures { λ r. ⌜ r ≡ act (now (image .entry)) (setLine (caller .0) (role .0) (list .0) kind (subject .0) privileges) .answer ⌝ }
-    ensures { λ _. ⌜ now (image .exit) ≡ act (now (image .entry)) (setLine (caller .0) (role .0) (list .0) kind (subject .0) privileges) .image ⌝ }
+    ensures { λ _. ⌜ now (image .exit)
+        ≡ act (now (image .entry)) (setLine (caller .0) (role .0) (list .0) kind (subject .0) privileges) .image ⌝ }
 {
     let opened = open(image);
     let layout = match opened {

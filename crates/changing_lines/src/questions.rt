@@ -42,8 +42,11 @@ pub fn set_line_storing(
     subject: Subject,
     privileges: Privileges,
 ) -> Storing
-    ensures { λ r. ⌜ r ≡ storing (firstNo (questions (tablesBy layout (now (image .entry))) (setLine (caller .0) (role .0) (list .0) kind (subject .0) privileges))) (rowIndex lineKey (list .0 ∷ kind ∷ subject .0 ∷ []) (tablesBy layout (now (image .entry)) .lines)) ⌝ }
-    ensures { λ r. ⌜ storingNumber r ≡ firstNo (questions (tablesBy layout (now (image .entry))) (setLine (caller .0) (role .0) (list .0) kind (subject .0) privileges)) ⌝ }
+    ensures { λ r. let t = tablesBy layout (now (image .entry)) in
+        ⌜ r ≡ storing (firstNo (questions t (setLine (caller .0) (role .0) (list .0) kind (subject .0) privileges)))
+        (rowIndex lineKey (list .0 ∷ kind ∷ subject .0 ∷ []) (t .lines)) ⌝ }
+    ensures { λ r. let t = tablesBy layout (now (image .entry)) in
+        ⌜ storingNumber r ≡ firstNo (questions t (setLine (caller .0) (role .0) (list .0) kind (subject .0) privileges)) ⌝ }
 {
     let number = named_refusal(image, layout, caller, list, kind, subject);
     if number != 0 {
@@ -72,8 +75,11 @@ pub fn remove_line_removing(
     kind: u32,
     subject: Subject,
 ) -> Removing
-    ensures { λ r. ⌜ r ≡ removing (firstNo (questions (tablesBy layout (now (image .entry))) (removeLine (caller .0) (role .0) (list .0) kind (subject .0)))) (insertionIndex lineKey (list .0 ∷ kind ∷ subject .0 ∷ []) (tablesBy layout (now (image .entry)) .lines)) ⌝ }
-    ensures { λ r. ⌜ removingNumber r ≡ firstNo (questions (tablesBy layout (now (image .entry))) (removeLine (caller .0) (role .0) (list .0) kind (subject .0))) ⌝ }
+    ensures { λ r. let t = tablesBy layout (now (image .entry)) in
+        ⌜ r ≡ removing (firstNo (questions t (removeLine (caller .0) (role .0) (list .0) kind (subject .0))))
+        (insertionIndex lineKey (list .0 ∷ kind ∷ subject .0 ∷ []) (t .lines)) ⌝ }
+    ensures { λ r. let t = tablesBy layout (now (image .entry)) in
+        ⌜ removingNumber r ≡ firstNo (questions t (removeLine (caller .0) (role .0) (list .0) kind (subject .0))) ⌝ }
 {
     let number = named_refusal(image, layout, caller, list, kind, subject);
     if number != 0 {
@@ -101,7 +107,8 @@ fn named_refusal(
     kind: u32,
     subject: Subject,
 ) -> u32
-    ensures { λ r. ⌜ r ≡ firstNo (take 4 (questions (tablesBy layout (now (image .entry))) (removeLine (caller .0) 0 (list .0) kind (subject .0)))) ⌝ }
+    ensures { λ r. let t = tablesBy layout (now (image .entry)) in
+        ⌜ r ≡ firstNo (take 4 (questions t (removeLine (caller .0) 0 (list .0) kind (subject .0)))) ⌝ }
 {
     if !subject_used(image, layout, caller) {
         return refusal::CALLER;

@@ -56,7 +56,10 @@ fn add_defined(
     parent: Subject,
     privileges: Privileges,
 )
-    ensures { λ _. ⌜ now (image .exit) ≡ withRow (subjectFormat (widthOf layout)) subjectsCounter (layout .subjects) (layout .subjects .used) (subjectRow (parent .0) (newPrivileges (tablesBy layout (now (image .entry))) (caller .0) privileges) (caller .0)) (now (image .entry)) ⌝ }
+    ensures { λ _. let t = tablesBy layout (now (image .entry)) in
+        ⌜ now (image .exit)
+        ≡ withRow (subjectFormat (widthOf layout)) subjectsCounter (layout .subjects) (layout .subjects .used)
+        (subjectRow (parent .0) (newPrivileges t (caller .0) privileges) (caller .0)) (now (image .entry)) ⌝ }
 {
     let held = new_privileges(image, layout, caller, privileges);
     add_subject(image, layout, SubjectRow::new(parent, held, caller));

@@ -29,7 +29,8 @@ pub fn define_refusal(
     parent: Subject,
     privileges: Privileges,
 ) -> u32
-    ensures { λ r. ⌜ r ≡ firstNo (questions (tablesBy layout (now (image .entry))) (defineSubject (caller .0) (role .0) (parent .0) privileges)) ⌝ }
+    ensures { λ r. let t = tablesBy layout (now (image .entry)) in
+        ⌜ r ≡ firstNo (questions t (defineSubject (caller .0) (role .0) (parent .0) privileges)) ⌝ }
 {
     let number = named_refusal(image, layout, caller, role, parent, privileges);
     if number != 0 {
@@ -60,7 +61,8 @@ fn named_refusal(
     parent: Subject,
     privileges: Privileges,
 ) -> u32
-    ensures { λ r. ⌜ r ≡ firstNo (take 2 (questions (tablesBy layout (now (image .entry))) (defineSubject (caller .0) (role .0) (parent .0) privileges))) ⌝ }
+    ensures { λ r. let t = tablesBy layout (now (image .entry)) in
+        ⌜ r ≡ firstNo (take 2 (questions t (defineSubject (caller .0) (role .0) (parent .0) privileges))) ⌝ }
 {
     if !subject_used(image, layout, caller) {
         return refusal::CALLER;

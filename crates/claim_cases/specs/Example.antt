@@ -7,15 +7,14 @@ use mathlib.Core.Path.{_≡_}
 use Prim.Native.Nat.{ℕ}
 use lib.Dec.{T, eqb, eqb→eq, T-not}
 use Rattle.model.specs.Lists.{All}
-use Rattle.model.specs.Sorted.{same, find, put, ascending}
-use Rattle.model.specs.Tree.{climbs, inTree}
-use Rattle.model.specs.WhoAndWhat.{has}
-use Rattle.model.specs.Image.{tables, fieldAt, layoutOf, rowsIn, tablesBy, blockOf, encode, subjectsHold, itemsHold, linesHold, grantsHold, headerRules, tableRules, layoutRules, unusedRules}
-use Rattle.model.specs.Permission.{groupWithin, groupLine, directLine, partOf, operationUnder, objectUnder, permissionUnder, permissionSet}
-use Rattle.model.specs.Calls.{Change, after}
+use Rattle.model.specs.Sorted.{same}
+use Rattle.model.specs.Image.{tables}
+use Rattle.model.specs.Permission.{permissionSet}
+use Rattle.model.specs.Calls.{Change}
 use Rattle.model.specs.Calls.Change.{defineSubject, setGrant, bind}
 use Rattle.model.specs.Calls.Ask.{permissionSetOf}
-use Rattle.model.specs.Questions.{firstNo, imageQuestions, questions, check, act}
+use Rattle.model.specs.Questions.{act}
+use Rattle.model.specs.Computing.{computing}
 use Rattle.model.specs.Sample.{workshop}
 use Rattle.laws.specs.Tests.{_and_, true-T}
 use Rattle.laws.specs.Sorted.{same-self}
@@ -57,7 +56,7 @@ computed : All T
     ∷ not (same (act stop its-call .image) stop)
     ∷ eqb (permissionSet (tables stop) 4 7 2) 11
     ∷ [])
-unfolding workshop proper coveredBut find put ascending climbs inTree has fieldAt layoutOf rowsIn tablesBy blockOf encode subjectsHold itemsHold linesHold grantsHold headerRules tableRules layoutRules unusedRules groupWithin groupLine directLine partOf operationUnder objectUnder permissionUnder after firstNo imageQuestions questions check act run writing walk
+unfolding workshop computing proper coveredBut run writing walk
 computed = tt and tt and tt and tt and tt and tt
 
 pub covered : Covered stop (example .second) 4 7 2

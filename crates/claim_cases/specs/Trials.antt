@@ -3,14 +3,10 @@ use mathlib.Core.List.{List, [], _∷_}
 use mathlib.Core.Logic.{_≢_}
 use mathlib.Core.Path.{refl}
 use Prim.Native.Nat.{ℕ}
-use Rattle.model.specs.Sorted.{find, put, cut, ascending}
-use Rattle.model.specs.Tree.{climbs, inTree}
-use Rattle.model.specs.WhoAndWhat.{everything, has}
-use Rattle.model.specs.Image.{Tables, subjectRow, grantRow, lineRow, itemRow, itselfKind, groupKind, ownerKind, everyoneKind, fieldAt, layoutOf, rowsIn, tablesBy, blockOf, encode, subjectsHold, itemsHold, linesHold, grantsHold, headerRules, tableRules, layoutRules, unusedRules}
-use Rattle.model.specs.Permission.{groupWithin, groupLine, directLine, partOf, operationUnder, objectUnder, permissionUnder}
-use Rattle.model.specs.Calls.{after}
+use Rattle.model.specs.WhoAndWhat.{everything}
+use Rattle.model.specs.Image.{Tables, subjectRow, grantRow, lineRow, itemRow, itselfKind, groupKind, ownerKind, everyoneKind}
 use Rattle.model.specs.Calls.Change.{defineSubject, setGrant, removeGrant, setLine, createItem, bind}
-use Rattle.model.specs.Questions.{firstNo, imageQuestions, questions, check, act}
+use Rattle.model.specs.Computing.{computing}
 use Rattle.model.specs.Sample.{workshop}
 use Rattle.strangers.specs.Sequences.{Step, run, writing}
 use Rattle.strangers.specs.Sequences.Step.{changes}
@@ -61,7 +57,7 @@ opens c r = changes (setLine c r 1 everyoneKind 0 1)
 
 -- Without any one of its clauses the claim is false.
 pub each-is-needed : (left-out : Clause) → left-out ≢ nothing → ¬ Without left-out
-unfolding workshop rivals threeLists proper coveredBut changed find put cut ascending climbs inTree has fieldAt layoutOf rowsIn tablesBy blockOf encode subjectsHold itemsHold linesHold grantsHold headerRules tableRules layoutRules unusedRules groupWithin groupLine directLine partOf operationUnder objectUnder permissionUnder after firstNo imageQuestions questions check act run writing walk
+unfolding workshop rivals threeLists computing proper coveredBut changed run writing walk
 each-is-needed nothing d = absurd (d refl)
 -- 1, who may edit the document's list, sets a line of it.
 each-is-needed list-of-document d = refutes list-of-document (tried rivals (opens 1 0 ∷ []) 3 0 3 0 1) tt tt tt

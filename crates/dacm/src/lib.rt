@@ -89,7 +89,8 @@ pub extern "C" fn dacm_set_grant(
     privileges: Privileges,
 ) -> Answer
     ensures { λ r. ⌜ r ≡ act (now (image .entry)) (setGrant (caller .0) (receiver .0) (role .0) (domain .0) privileges) .answer ⌝ }
-    ensures { λ _. ⌜ now (image .exit) ≡ act (now (image .entry)) (setGrant (caller .0) (receiver .0) (role .0) (domain .0) privileges) .image ⌝ }
+    ensures { λ _. ⌜ now (image .exit)
+        ≡ act (now (image .entry)) (setGrant (caller .0) (receiver .0) (role .0) (domain .0) privileges) .image ⌝ }
 {
     changing_grants::set_grant(image, caller, receiver, role, domain, privileges)
 }
@@ -120,7 +121,8 @@ pub extern "C" fn dacm_set_line(
     privileges: Privileges,
 ) -> Answer
     ensures { λ r. ⌜ r ≡ act (now (image .entry)) (setLine (caller .0) (role .0) (list .0) kind (subject .0) privileges) .answer ⌝ }
-    ensures { λ _. ⌜ now (image .exit) ≡ act (now (image .entry)) (setLine (caller .0) (role .0) (list .0) kind (subject .0) privileges) .image ⌝ }
+    ensures { λ _. ⌜ now (image .exit)
+        ≡ act (now (image .entry)) (setLine (caller .0) (role .0) (list .0) kind (subject .0) privileges) .image ⌝ }
 {
     changing_lines::set_line(image, caller, role, list, kind, subject, privileges)
 }

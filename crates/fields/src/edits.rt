@@ -73,7 +73,8 @@ fn shift_up(bytes: &mut [u8], at: usize, size: usize)
 
 fn shift_down(bytes: &mut [u8], at: usize, size: usize)
     requires { ⌜ at + size ≤ length (now bytes) ⌝ }
-    ensures { λ _. ⌜ now (bytes .exit) ≡ paste (now (bytes .entry)) at (drop (at + size) (now (bytes .entry))) (length (now (bytes .entry)) - (at + size)) ⌝ }
+    ensures { λ _. ⌜ now (bytes .exit)
+        ≡ paste (now (bytes .entry)) at (drop (at + size) (now (bytes .entry))) (length (now (bytes .entry)) - (at + size)) ⌝ }
 {
     let count = bytes.len() - (at + size);
     let mut moved = 0;
@@ -85,7 +86,8 @@ fn shift_down(bytes: &mut [u8], at: usize, size: usize)
 
 fn clear_from(bytes: &mut [u8], at: usize)
     requires { ⌜ at ≤ length (now bytes) ⌝ }
-    ensures { λ _. ⌜ now (bytes .exit) ≡ paste (now (bytes .entry)) at (replicate (length (now (bytes .entry)) - at) 0) (length (now (bytes .entry)) - at) ⌝ }
+    ensures { λ _. ⌜ now (bytes .exit)
+        ≡ paste (now (bytes .entry)) at (replicate (length (now (bytes .entry)) - at) 0) (length (now (bytes .entry)) - at) ⌝ }
 {
     let count = bytes.len() - at;
     let mut cleared = 0;

@@ -10,4 +10,5 @@ pub mod Permission
 pub mod Calls
 pub mod Questions
 pub mod Sample
+pub mod Computing
 pub mod Twelve

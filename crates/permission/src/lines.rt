@@ -31,7 +31,8 @@ pub fn line_of(image: &[u8], layout: Layout, list: Item, kind: u32, subject: Sub
 
 // The lowest group line above a subject.
 pub fn group_line(image: &[u8], layout: Layout, subject: Subject, list: Item) -> SoughtLine
-    ensures { λ r. ⌜ foundLine r ≡ groupLine (parentIn (tablesBy layout (now (image .entry)) .subjects)) (tablesBy layout (now (image .entry)) .lines) (subject .0) (list .0) ⌝ }
+    ensures { λ r. let t = tablesBy layout (now (image .entry)) in
+        ⌜ foundLine r ≡ groupLine (parentIn (t .subjects)) (t .lines) (subject .0) (list .0) ⌝ }
 {
     if list.0 == 0 {
         return SoughtLine::NoLine;
@@ -65,7 +66,8 @@ fn group_index(
     list: Item,
 ) -> u32
     requires { ⌜ list .0 ≢ 0 ⌝ }
-    ensures { λ r. ⌜ getElem? (tablesBy (climbingLayout «subjects_used» «subjects_start» «lines_used» «lines_start») (now (image .entry)) .lines) r ≡ groupLine (parentIn (tablesBy (climbingLayout «subjects_used» «subjects_start» «lines_used» «lines_start») (now (image .entry)) .subjects)) (tablesBy (climbingLayout «subjects_used» «subjects_start» «lines_used» «lines_start») (now (image .entry)) .lines) (subject .0) (list .0) ⌝ }
+    ensures { λ r. let t = tablesBy (climbingLayout «subjects_used» «subjects_start» «lines_used» «lines_start») (now (image .entry)) in
+        ⌜ getElem? (t .lines) r ≡ groupLine (parentIn (t .subjects)) (t .lines) (subject .0) (list .0) ⌝ }
 {
     let layout = climbing_layout(subjects_used, subjects_start, lines_used, lines_start);
     let parent = parent_of(image, layout, subject);
@@ -141,7 +143,9 @@ pub fn deciding_line(
     owner: Subject,
     list: Item,
 ) -> SoughtLine
-    ensures { λ r. ⌜ foundLine r ≡ orElse (directLine (tablesBy layout (now (image .entry)) .lines) (subject .0) (owner .0) (list .0)) (groupLine (parentIn (tablesBy layout (now (image .entry)) .subjects)) (tablesBy layout (now (image .entry)) .lines) (subject .0) (list .0)) ⌝ }
+    ensures { λ r. let t = tablesBy layout (now (image .entry)) in
+        ⌜ foundLine r ≡ orElse (directLine (t .lines) (subject .0) (owner .0) (list .0))
+        (groupLine (parentIn (t .subjects)) (t .lines) (subject .0) (list .0)) ⌝ }
 {
     let direct = direct_line(image, layout, subject, owner, list);
     match direct {

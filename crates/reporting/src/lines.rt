@@ -18,7 +18,8 @@ use permission::decision::permissions;
 pub fn put_lines(image: &[u8], layout: Layout, first: u64, count: u64, page: &mut [u8]) -> usize
     requires { ⌜ length (now page) ≡ pageSize ⌝ }
     requires { ⌜ (count ≤ pageLines) × (first + count < 2 ^ 64) × (first + count ≤ lineCount (tablesBy layout (now image))) ⌝ }
-    ensures { λ r. ⌜ Put (now (page .entry)) pageSize (linesFrom (tablesBy layout (now (image .entry))) first count) (now (page .exit)) r ⌝ }
+    ensures { λ r. let t = tablesBy layout (now (image .entry)) in
+        ⌜ Put (now (page .entry)) pageSize (linesFrom t first count) (now (page .exit)) r ⌝ }
 {
     let mut left = count;
     let mut at = PAGE;

@@ -3,7 +3,8 @@
 ghost use mathlib.Core.Path.{_≡_};
 ghost use Prim.Native.Nat.{_*_, _/_, _≤_};
 ghost use lib.ListN.{length, getD, drop};
-ghost use Rattle.model.specs.Image.{size, firstRow, rowsIn, itemIn, widthOf, subjectFormat, noSubject, grantFormat, noGrant, lineFormat, noLine, itemFormat};
+ghost use Rattle.model.specs.Image.{size, firstRow, rowsIn, itemIn, widthOf};
+ghost use Rattle.model.specs.Image.{subjectFormat, noSubject, grantFormat, noGrant, lineFormat, noLine, itemFormat};
 ghost use Rattle.rows.specs.Reading.{rowOf, rowSlice, rowsSlice};
 use fields::edits::offset_count;
 use fields::numbers::field;
@@ -141,7 +142,8 @@ pub fn whole_subjects(rows: &[u8], layout: Layout) -> usize
 // Row n of such bytes. A row that is not among them, or not whole, is the row of zeros. It is asked by the number, not by the byte: of a pass or a climb how many
 // rows there are is then computed once.
 pub fn subject_among(rows: &[u8], layout: Layout, n: u32) -> SubjectRow
-    ensures { λ r. ⌜ r ≡ firstRow (subjectFormat (widthOf layout)) (drop (n * size (subjectFormat (widthOf layout))) (now (rows .entry))) ⌝ }
+    ensures { λ r. ⌜ r
+        ≡ firstRow (subjectFormat (widthOf layout)) (drop (n * size (subjectFormat (widthOf layout))) (now (rows .entry))) ⌝ }
 {
     if whole_subjects(rows, layout) <= n as usize {
         return SubjectRow::new(Subject(0), 0, Subject(0));

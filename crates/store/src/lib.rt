@@ -2,7 +2,8 @@
 // line goes to the spot that a search found. No function asks whether a row is free: the questions before a call do.
 ghost use mathlib.Core.Path.{_≡_};
 ghost use Rattle.model.specs.Image.{widthOf, subjectFormat, grantFormat, lineFormat, itemFormat};
-ghost use Rattle.store.specs.Stores.{subjectsCounter, grantsCounter, linesCounter, itemsCounter, withRow, withoutRow, overItem, storedAt};
+ghost use Rattle.store.specs.Stores.{subjectsCounter, grantsCounter, linesCounter, itemsCounter};
+ghost use Rattle.store.specs.Stores.{withRow, withoutRow, overItem, storedAt};
 use crate::moves::store_row;
 use crate::moves::take_row;
 use model::GrantRow;
@@ -36,7 +37,8 @@ pub enum Removing {
 }
 
 pub fn add_subject(image: &mut [u8], layout: Layout, row: SubjectRow)
-    ensures { λ _. ⌜ now (image .exit) ≡ withRow (subjectFormat (widthOf layout)) subjectsCounter (layout .subjects) (layout .subjects .used) row (now (image .entry)) ⌝ }
+    ensures { λ _. ⌜ now (image .exit)
+        ≡ withRow (subjectFormat (widthOf layout)) subjectsCounter (layout .subjects) (layout .subjects .used) row (now (image .entry)) ⌝ }
 {
     let table = layout.subjects;
     let mut bytes = [0; SubjectRow::SIZE];
@@ -86,7 +88,8 @@ fn store_item(image: &mut [u8], layout: Layout, index: RowIndex, row: ItemRow)
 }
 
 pub fn store_grant(image: &mut [u8], layout: Layout, index: RowIndex, row: GrantRow)
-    ensures { λ _. ⌜ now (image .exit) ≡ storedAt (grantFormat (widthOf layout)) grantsCounter (layout .grants) index row (now (image .entry)) ⌝ }
+    ensures { λ _. ⌜ now (image .exit)
+        ≡ storedAt (grantFormat (widthOf layout)) grantsCounter (layout .grants) index row (now (image .entry)) ⌝ }
 {
     let mut bytes = [0; GrantRow::SIZE];
     put_grant(&mut bytes, layout, 0, row);
@@ -113,7 +116,8 @@ pub fn take_grant(image: &mut [u8], layout: Layout, n: u32)
 }
 
 pub fn store_line(image: &mut [u8], layout: Layout, index: RowIndex, row: LineRow)
-    ensures { λ _. ⌜ now (image .exit) ≡ storedAt (lineFormat (widthOf layout)) linesCounter (layout .lines) index row (now (image .entry)) ⌝ }
+    ensures { λ _. ⌜ now (image .exit)
+        ≡ storedAt (lineFormat (widthOf layout)) linesCounter (layout .lines) index row (now (image .entry)) ⌝ }
 {
     let mut bytes = [0; LineRow::SIZE];
     put_line(&mut bytes, layout, 0, row);

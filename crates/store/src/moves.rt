@@ -49,7 +49,8 @@ fn store_whole(image: &mut [u8], counter: usize, table: Table, index: RowIndex, 
 // Row n of a table taken out.
 pub fn take_row(image: &mut [u8], counter: usize, table: Table, size: usize, n: u32)
     requires { ⌜ size ≤ 32 ⌝ }
-    ensures { λ _. ⌜ now (image .exit) ≡ rowTaken (now (image .entry)) counter (table .used) (table .start + n * size) (table .start + table .used * size) size ⌝ }
+    ensures { λ _. ⌜ now (image .exit)
+        ≡ rowTaken (now (image .entry)) counter (table .used) (table .start + n * size) (table .start + table .used * size) size ⌝ }
 {
     close_row(
         image,

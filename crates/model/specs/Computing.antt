@@ -1,0 +1,17 @@
+-- One name for the definitions that a call on written-out tables computes with. A theorem by computation says `unfolding computing`.
+use Rattle.model.specs.Sorted.{find, put, cut, ascending}
+use Rattle.model.specs.Tree.{climbs, inTree}
+use Rattle.model.specs.WhoAndWhat.{has}
+use Rattle.model.specs.Image.{fieldAt, layoutOf, rowsIn, tablesBy, blockOf, encode, subjectsHold, itemsHold, linesHold, grantsHold}
+use Rattle.model.specs.Image.{headerRules, tableRules, layoutRules, unusedRules}
+use Rattle.model.specs.Permission.{groupWithin, groupLine, directLine, partOf, operationUnder, objectUnder, permissionUnder}
+use Rattle.model.specs.Calls.{askResult, after, changeResult}
+use Rattle.model.specs.Questions.{firstNo, imageQuestions, askQuestions, questions, check, ask, act}
+
+unfoldable pub computing : Unit {0}
+unfolding find put cut ascending climbs inTree has
+    fieldAt layoutOf rowsIn tablesBy blockOf encode
+    subjectsHold itemsHold linesHold grantsHold headerRules tableRules layoutRules unusedRules
+    groupWithin groupLine directLine partOf operationUnder objectUnder permissionUnder
+    askResult after changeResult firstNo imageQuestions askQuestions questions check ask act
+computing = tt
