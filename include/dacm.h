@@ -1,18 +1,19 @@
 /*
  * The access tables of a document library: who may read, replace or discard which document.
  *
- * The tables live in one image, bytes that the host lends to every call: 36 to 65,536 of them, whatever they hold. Every call
- * takes any bytes and any numbers. It answers number 0 and its result, or the number of the first question of document 01's
- * list that is answered no, and result 0; README.md has a table of these numbers. A refused call changes no byte of the image,
- * and a call that takes the image as const never does.
+ * The tables are kept in one image: 36 to 65,536 bytes that the host lends to every call, whatever they hold. Every
+ * call takes any bytes and any numbers. It asks its questions in the order of their numbers, which are those of
+ * document 01; README.md has a table of them. If all are answered yes, the call answers number 0 and its result.
+ * Otherwise it answers the refusal, which is the number of the first question answered no, and result 0. A refused
+ * call leaves every byte of the image as it was. A call that takes the image as const never writes it.
  *
- * What the host sees to: `image` points to `length` bytes and is not a null pointer, also where length is 0; nobody else writes
- * them during a call. Calls keep nothing between them and may run at the same time on different images, and calls that take the
- * image as const on the same one.
+ * The host must ensure two things. `image` points to `length` bytes and is not a null pointer, not even where `length`
+ * is 0. And nobody else writes these bytes during a call. Calls keep nothing between them. They may run at the same
+ * time on different images, and calls that take the image as const also on the same image.
  *
- * A call stays within DACM_STACK_BYTES of stack, whatever the image holds: the search for a group's line goes up by recursion, a
- * level for each group above the subject, and an image has room for a chain of some 5,450. The tests run the deepest ones on a
- * thread with just so much.
+ * A call uses at most DACM_STACK_BYTES of stack, whatever the image holds. The search for a group's line is recursive,
+ * with one level for each group above the subject. The longest chain of groups that fits into an image has some 5,450.
+ * The tests run the deepest chains on a thread that has exactly this stack.
  */
 #ifndef DACM_H
 #define DACM_H
@@ -27,11 +28,12 @@ extern "C" {
 /* The stack that a call may need. */
 #define DACM_STACK_BYTES 524288
 
-/* A subject, a role and an item are each a number, and a type of their own: none passes for another. */
+/* Subjects, roles and items are numbers. Each has a type of its own, so that one cannot be passed for another. */
 typedef struct { uint32_t number; } dacm_subject; /* 0 is the custodian */
 typedef struct { uint32_t number; } dacm_role;    /* 0 is no role */
-typedef struct { uint32_t number; } dacm_item;    /* items count from 1; as a list, 0 is none */
+typedef struct { uint32_t number; } dacm_item;    /* items are numbered from 1; as a list, 0 is none */
 
+/* What a call answers: number 0 and its result, or the refusal and result 0. A call that names no result has 0. */
 typedef struct { uint32_t number; uint32_t result; } dacm_answer;
 
 /* Privileges: bit n of a set is position n. Positions 7 to 31 are the host's own. */
@@ -63,40 +65,52 @@ dacm_answer dacm_check(const uint8_t *image, size_t length);
 dacm_answer dacm_operation_set(const uint8_t *image, size_t length, dacm_subject subject, dacm_role role);
 
 /* Result: the permission set of a subject under a role on an item. */
-dacm_answer dacm_permission_set(const uint8_t *image, size_t length, dacm_subject subject, dacm_role role, dacm_item item);
+dacm_answer dacm_permission_set(const uint8_t *image, size_t length, dacm_subject subject, dacm_role role,
+                                dacm_item item);
 
-/* Result: how many lines a list has. They stand together in the image, 16 bytes each. */
+/* Result: how many lines a list has. They are consecutive in the image, 16 bytes each. */
 dacm_answer dacm_list_count(const uint8_t *image, size_t length, dacm_item list);
 
-/* The byte of the image at which the lines of a list begin; 0 where the call is refused or the list has no lines. */
+/* The offset of the first line of a list; 0 where the call is refused or the list has no lines. */
 size_t dacm_list_start(const uint8_t *image, size_t length, dacm_item list);
 
-/* Result: some subject other than the custodian that may edit a list. Which of several is undecided. */
+/*
+ * Result: a subject other than the custodian that may edit a list without claiming a role. Where several subjects may,
+ * it is undecided which of them the result names.
+ */
 dacm_answer dacm_find_editor(const uint8_t *image, size_t length, dacm_item list);
 
 /* The calls that change the tables. */
 
-/* Define a subject below a parent. Result: its number. It holds what the caller's own row also has of the privileges. */
+/*
+ * Define a subject below a parent. Result: its number. Of the given privileges it gets those that the caller's own row
+ * has too.
+ */
 dacm_answer dacm_define_subject(uint8_t *image, size_t length, dacm_subject caller, dacm_role role, dacm_subject parent,
                                 uint32_t privileges);
 
-/* Grant a role to a receiver, over a domain in the caller's tree. The caller's grant of the same role is overwritten. */
+/*
+ * Grant a role to a receiver, over a domain in the caller's tree. If the caller has granted this role to this receiver
+ * before, the earlier grant is overwritten.
+ */
 dacm_answer dacm_set_grant(uint8_t *image, size_t length, dacm_subject caller, dacm_subject receiver, dacm_role role,
                            dacm_subject domain, uint32_t privileges);
 
 /* Take a role back from its receiver. */
-dacm_answer dacm_remove_grant(uint8_t *image, size_t length, dacm_subject caller, dacm_subject receiver, dacm_role role);
+dacm_answer dacm_remove_grant(uint8_t *image, size_t length, dacm_subject caller, dacm_subject receiver,
+                              dacm_role role);
 
 /* Set a line of a list. The list's line of the same kind for the same subject is overwritten. */
-dacm_answer dacm_set_line(uint8_t *image, size_t length, dacm_subject caller, dacm_role role, dacm_item list, uint32_t kind,
-                          dacm_subject subject, uint32_t privileges);
+dacm_answer dacm_set_line(uint8_t *image, size_t length, dacm_subject caller, dacm_role role, dacm_item list,
+                          uint32_t kind, dacm_subject subject, uint32_t privileges);
 
 /* Remove a line of a list. */
-dacm_answer dacm_remove_line(uint8_t *image, size_t length, dacm_subject caller, dacm_role role, dacm_item list, uint32_t kind,
-                             dacm_subject subject);
+dacm_answer dacm_remove_line(uint8_t *image, size_t length, dacm_subject caller, dacm_role role, dacm_item list,
+                             uint32_t kind, dacm_subject subject);
 
 /* Create an item that the caller owns, governed by a list or by none. Result: its number. */
-dacm_answer dacm_create_item(uint8_t *image, size_t length, dacm_subject caller, dacm_role role, dacm_item list, uint32_t flags);
+dacm_answer dacm_create_item(uint8_t *image, size_t length, dacm_subject caller, dacm_role role, dacm_item list,
+                             uint32_t flags);
 
 /* Bind an item to a list, or to none. */
 dacm_answer dacm_bind(uint8_t *image, size_t length, dacm_subject caller, dacm_item item, dacm_item list);

@@ -1,5 +1,5 @@
-//! The proved library beside the twin, an independent implementation in Rust: how long the same
-//! calls take on the same images. `make bench` in the folder above runs it and builds what it needs.
+//! The proved library and the twin, an independent implementation in Rust: how long the same calls
+//! take on the same images. `make bench` in the folder above runs this and builds what it needs.
 
 #[allow(dead_code)]
 #[path = "../tests/support/call.rs"]
@@ -76,8 +76,8 @@ fn assert_accepted(case: &Case) {
     assert_eq!(twin::check(&case.image).number, 0, "the twin on {name}");
 }
 
-/// Both sides answer the same and leave the same bytes. No call is refused, but for a search where
-/// there is no editor.
+/// Library and twin answer the same and leave the same bytes. No call is refused, except the editor
+/// search if there is no editor.
 fn assert_same_answer(case: &Case, operation: &Operation) {
     let what = format!("{} on {}", operation.name, case.image_name);
     let mut by_library = case.image.clone();

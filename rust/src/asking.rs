@@ -2,12 +2,12 @@
 
 use crate::{ffi, Item, Privileges, Refusal, Role, Subject};
 
-/// The bytes of a row of the lines' table.
+/// How many bytes a row of the table of lines has.
 const LINE_BYTES: usize = 16;
 
 /// Is this an image that the other calls work on?
 ///
-/// Every other call asks the same first, so there is no need to check before it.
+/// Every other call asks the same questions first, so there is no need to check before it.
 pub fn check(image: &[u8]) -> Result<(), Refusal> {
     ffi::check(image).done()
 }
@@ -36,19 +36,19 @@ pub fn list_count(image: &[u8], list: Item) -> Result<u32, Refusal> {
     ffi::list_count(image, list).result()
 }
 
-/// The lines of a list, as the very part of the image that holds them.
+/// The lines of a list: the slice of the image that holds them, not a copy.
 ///
-/// A line is 16 bytes, four fields of 32 bits, little-endian: list, kind, subject, privileges. A
-/// list without lines shows the empty part at byte 0.
+/// A line is 16 bytes, four fields of 32 bits, little-endian: list, kind, subject, privileges. For a
+/// list without lines it is the empty slice at offset 0.
 pub fn lines_of(image: &[u8], list: Item) -> Result<&[u8], Refusal> {
     let bytes = list_count(image, list)? as usize * LINE_BYTES;
     let start = ffi::list_start(image, list);
     Ok(&image[start..start + bytes])
 }
 
-/// Some subject other than the custodian that may edit a list without claiming a role.
+/// A subject other than the custodian that may edit a list without claiming a role.
 ///
-/// Which of several is undecided; count on none of them.
+/// Where several subjects may, it is undecided which of them is named: rely on none of them.
 pub fn find_editor(image: &[u8], list: Item) -> Result<Subject, Refusal> {
     ffi::find_editor(image, list).result().map(Subject)
 }

@@ -5,9 +5,9 @@ use crate::{ffi, Flags, Item, Kind, Privileges, Refusal, Role, Subject};
 /// Defines a subject below a parent and answers its number.
 ///
 /// The caller needs [`DEFINE_SUBJECTS`](crate::privileges::DEFINE_SUBJECTS) in its operation set
-/// under the role, and the parent has to be in the tree of the caller or of the role's grantor. The
-/// new subject holds of the privileges what the caller's own row has too; what the caller has only
-/// by a role is not passed on.
+/// under the role, and the parent must be in the caller's tree or in the tree of the subject that
+/// granted the role. Of the given privileges the new subject gets those that the caller's own row
+/// has too; what the caller has only by a role is not passed on.
 pub fn define_subject(
     image: &mut [u8],
     caller: Subject,
@@ -22,8 +22,9 @@ pub fn define_subject(
 
 /// Grants a role to a receiver, over the items whose owners are in the tree of the domain.
 ///
-/// The domain has to be in the caller's tree. An earlier grant of the same role by the caller to
-/// the same receiver is overwritten; another grantor's is not.
+/// Any subject in use may grant, and the domain must be in its tree. An earlier grant of the same
+/// role by the caller to the same receiver is overwritten; one by another grantor is not, and the
+/// call is refused.
 pub fn set_grant(
     image: &mut [u8],
     caller: Subject,
@@ -35,7 +36,7 @@ pub fn set_grant(
     ffi::set_grant(image, caller, receiver, role, domain, privileges).done()
 }
 
-/// Takes a role back from its receiver. Only its grantor and the custodian may.
+/// Takes a role back from its receiver. Only the grantor and the custodian may do this.
 pub fn remove_grant(
     image: &mut [u8],
     caller: Subject,
@@ -93,13 +94,13 @@ pub fn create_item(
         .map(Item)
 }
 
-/// Binds an item to a list, or to [`Item::NONE`]. The owner may while the item is not locked, the
-/// custodian always.
+/// Binds an item to a list, or to [`Item::NONE`]. The owner may do this while the item is not
+/// locked, the custodian always.
 pub fn bind(image: &mut [u8], caller: Subject, item: Item, list: Item) -> Result<(), Refusal> {
     ffi::bind(image, caller, item, list).done()
 }
 
-/// Hands an item over to a new owner. Only the custodian may.
+/// Hands an item over to a new owner. Only the custodian may do this.
 pub fn hand_over(
     image: &mut [u8],
     caller: Subject,

@@ -2,7 +2,7 @@
 
 use crate::{Flags, Item, Kind, Privileges, Refusal, Role, Subject};
 
-/// What a call answers: number 0 and its result, or the number of a refusal and result 0.
+/// What a call answers: number 0 and its result, or the refusal and result 0.
 #[repr(C)]
 #[derive(Clone, Copy)]
 pub(crate) struct Answer {
@@ -11,7 +11,7 @@ pub(crate) struct Answer {
 }
 
 impl Answer {
-    /// The outcome of a call that names a result.
+    /// The result of the call, or its refusal.
     pub(crate) fn result(self) -> Result<u32, Refusal> {
         match self.number {
             0 => Ok(self.result),
@@ -20,14 +20,13 @@ impl Answer {
         }
     }
 
-    /// The outcome of a call that names no result.
+    /// The same for a call that names no result.
     pub(crate) fn done(self) -> Result<(), Refusal> {
         self.result().map(|_| ())
     }
 }
 
-/// Declares functions of the header that take the image as const, each with a safe function of its
-/// own.
+/// Declares functions of the header that take the image as const, and a safe function for each.
 macro_rules! calls_that_ask {
     ($(fn $name:ident = $symbol:ident($($argument:ident: $type:ty),*) -> $answer:ty;)*) => {$(
         extern "C" {
@@ -35,17 +34,17 @@ macro_rules! calls_that_ask {
         }
 
         pub(crate) fn $name(image: &[u8] $(, $argument: $type)*) -> $answer {
-            // SAFETY: the header asks that the pointer is not null, that as many bytes as the
-            // length says stand behind it, and that nobody writes them meanwhile. Both come from
-            // one shared slice, whose pointer is not null even where it is empty. The function
-            // takes any bytes and any numbers; it is proved to stay inside the image, to write
+            // SAFETY: the header asks for a pointer that is not null, to as many bytes as the
+            // length says, which nobody writes during the call. Pointer and length are those of
+            // one shared slice, whose pointer is not null even if the slice is empty. The function
+            // takes any bytes and any numbers. It is proved to stay inside the image and to write
             // nothing, and it keeps no pointer.
             unsafe { $symbol(image.as_ptr(), image.len() $(, $argument)*) }
         }
     )*};
 }
 
-/// Declares functions of the header that write the image, each with a safe function of its own.
+/// Declares functions of the header that write the image, and a safe function for each.
 macro_rules! calls_that_change {
     ($(fn $name:ident = $symbol:ident($($argument:ident: $type:ty),*);)*) => {$(
         extern "C" {
@@ -53,9 +52,8 @@ macro_rules! calls_that_change {
         }
 
         pub(crate) fn $name(image: &mut [u8] $(, $argument: $type)*) -> Answer {
-            // SAFETY: as for the calls that ask, and the slice is exclusive: nobody else reads or
-            // writes the bytes. The function is proved to stay inside the image when it writes,
-            // too.
+            // SAFETY: as for the calls that ask. The slice is exclusive, so nobody else reads or
+            // writes the bytes. The function is proved to write only inside the image.
             unsafe { $symbol(image.as_mut_ptr(), image.len() $(, $argument)*) }
         }
     )*};

@@ -1,5 +1,5 @@
-//! Fields of rows that have few values. They are numbers and not enums: a call refuses a value out
-//! of range itself, with [`Refusal::Range`](crate::Refusal::Range).
+//! Fields of rows with few valid values. They are numbers and not enums, because the calls
+//! themselves refuse a value out of range, with [`Refusal::Range`](crate::Refusal::Range).
 
 use std::ops::BitOr;
 
@@ -11,7 +11,7 @@ pub struct Kind(pub u32);
 impl Kind {
     /// The subject that the line names.
     pub const ITSELF: Kind = Kind(0);
-    /// Everybody below the subject that the line names, but not the subject.
+    /// Everybody below the subject that the line names, but not that subject itself.
     pub const GROUP: Kind = Kind(1);
     /// The owner of the item that is asked about. The line names subject 0.
     pub const OWNER: Kind = Kind(2);
@@ -25,11 +25,11 @@ impl Kind {
 pub struct Flags(pub u32);
 
 impl Flags {
-    /// Neither of the two.
+    /// Neither of the two flags.
     pub const NONE: Flags = Flags(0);
     /// The item is an access list.
     pub const IS_LIST: Flags = Flags(1);
-    /// The item is locked: its owner may not bind it to another list.
+    /// The item is locked: its owner may not bind it. The custodian may.
     pub const LOCKED: Flags = Flags(2);
 }
 

@@ -1,29 +1,28 @@
 //! The access tables of a document library: who may read, replace or discard which document.
 //!
-//! The tables live in one image, bytes that the host lends to every call. Every call takes any
-//! bytes and any numbers: it does its job, or answers the first question that is answered no as a
-//! [`Refusal`] and leaves every byte as it was. The calls are a proved static library; this crate
-//! only dresses them in Rust's types.
+//! The tables are kept in one image: bytes that the host lends to every call. Every call takes any
+//! bytes and any numbers. It does its job, or it answers a [`Refusal`] and leaves every byte as it
+//! was. The calls are functions of a proved static library; this crate only gives them Rust types.
 //!
 //! # Stack
 //!
-//! A call stays within [`STACK_BYTES`] of stack, whatever the image holds. The search for a group's
-//! line goes up by recursion, a level for each group above the subject, and an image has room for a
-//! chain of some 5,450.
+//! A call uses at most [`STACK_BYTES`] of stack, whatever the image holds. The search for a group's
+//! line is recursive, with one level for each group above the subject. The longest chain of groups
+//! that fits into an image has some 5,450.
 //!
 //! # An image and some calls
 //!
 //! An image is 36 to 65,536 bytes, every field 32 bits, little-endian. Its header has the used rows
 //! and the offset of the subjects (rows of 12 bytes), of the grants (20), of the lines (16) and of
-//! the items (12), and then the total length. Unused rows are zero. So an empty library is a
-//! header, the custodian, and room:
+//! the items (12), and then the total length. Free rows are zero. So an empty library is a header,
+//! the custodian's row, and free rows:
 //!
 //! ```
 //! use dacm::privileges::{ALL, CREATE_ITEMS, DEFINE_SUBJECTS, READ};
 //! use dacm::{Flags, Item, Kind, Refusal, Role, Subject};
 //!
 //! # fn main() -> Result<(), Refusal> {
-//! // The custodian and room for 2 more subjects, for 1 grant, 2 lines and 2 items.
+//! // The custodian, and free rows for 2 more subjects, 1 grant, 2 lines and 2 items.
 //! let header = [1, 36, 0, 72, 0, 92, 0, 124, 148];
 //! let row = [0, ALL, 0]; // the custodian's parent, privileges and creator
 //! let fields = header.into_iter().chain(row);
@@ -31,7 +30,8 @@
 //! image.resize(148, 0);
 //! dacm::check(&image)?;
 //!
-//! // He defines an engineer, and she a technician below her, who gets only what she has herself.
+//! // The custodian defines an engineer. She defines a technician below her, who gets only what she
+//! // has herself.
 //! let (custodian, no_role) = (Subject::CUSTODIAN, Role::NONE);
 //! let hers = READ | CREATE_ITEMS | DEFINE_SUBJECTS;
 //! let engineer = dacm::define_subject(&mut image, custodian, no_role, custodian, hers)?;
@@ -50,7 +50,7 @@
 //! assert_eq!(tried, Err(Refusal::Right));
 //! assert_eq!(image, before);
 //!
-//! // The lines of a list are a part of the image itself: list, kind, subject, privileges.
+//! // The lines of a list are a slice of the image itself: list, kind, subject, privileges.
 //! let lines = dacm::lines_of(&image, list)?;
 //! assert_eq!(lines, [1, 0, 0, 0, 1, 0, 0, 0, 1, 0, 0, 0, 1, 0, 0, 0]);
 //! # Ok(())

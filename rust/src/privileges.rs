@@ -1,4 +1,4 @@
-//! The privileges by name. No privilege implies another; positions 7 and up are the host's own.
+//! The privileges by name. None includes another. Positions 7 to 31 are the host's own.
 
 /// A set of privileges: bit n is position n.
 pub type Privileges = u32;

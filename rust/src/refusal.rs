@@ -1,54 +1,66 @@
 use std::error::Error;
 use std::fmt;
 
-/// Why a call was refused: the first question, in the order of the list, that was answered no.
+/// Why a call was refused: the first of its questions that was answered no.
 ///
-/// The questions are asked from the top, those that concern the call. A refused call has changed no
-/// byte of the image.
+/// Every call asks its questions in the order of these numbers; none asks them all. A refused call
+/// has left every byte of the image as it was.
 #[non_exhaustive]
 #[repr(u32)]
 #[derive(Clone, Copy, Debug, PartialEq, Eq, PartialOrd, Ord, Hash)]
 pub enum Refusal {
-    /// 1\. Is the length 36 to 65,536?
+    /// 1\. The image has fewer than 36 bytes or more than 65,536. Look at the length of the slice.
     Length = 1,
-    /// 2\. Is the recorded total the length, the first offset 36, no offset falling or past the
-    /// total, each table whole rows, used within capacity, and a subject in use?
+    /// 2\. The header does not fit the image. The total must be the image's length and the first
+    /// offset 36; offsets must not decrease or exceed the total; each table must consist of whole
+    /// rows, not fewer than it uses; and at least one subject must be in use.
     Layout = 2,
-    /// 3\. Do the subject rows hold their rules?
+    /// 3\. A subject row breaks a rule. Row 0 must have parent 0, creator 0 and all privileges; any
+    /// other row must have a parent and a creator with lower numbers than its own, and only
+    /// privileges that the creator's row has too.
     SubjectRows = 3,
-    /// 4\. Do the item rows hold their rules?
+    /// 4\. An item row breaks a rule. Its owner must be in use, its list must be 0 or an access list
+    /// in use, and its flags must not be above 3.
     ItemRows = 4,
-    /// 5\. Do the line rows hold their rules?
+    /// 5\. A line row breaks a rule, or the rows do not ascend by list, kind and subject. Its list
+    /// must be an access list in use, its subject must be in use, and kind and subject must be in
+    /// range as for [`Range`](Refusal::Range).
     LineRows = 5,
-    /// 6\. Do the grant rows hold their rules?
+    /// 6\. A grant row breaks a rule, or the rows do not ascend by receiver and role. Receiver,
+    /// grantor and domain must be in use, the role must not be 0, and the domain must be the grantor
+    /// or below it.
     GrantRows = 6,
-    /// 7\. Are all unused rows zero?
+    /// 7\. A free row is not all zeros. Look at the bytes behind the used rows of each table.
     UnusedRows = 7,
-    /// 10\. Is the caller or asker in use?
+    /// 10\. The subject that makes the call, or that is asked about, is not in use.
     Caller = 10,
-    /// 11\. Is every other subject named in use?
+    /// 11\. Another subject is not in use: the parent, the receiver, the domain, the subject of the
+    /// line, or the new owner.
     Subject = 11,
-    /// 12\. Is the item named in use?
+    /// 12\. The item is not in use. The first item has number 1.
     Item = 12,
-    /// 13\. Is the list named an item in use that is an access list? (Bind and create pass
-    /// [`Item::NONE`](crate::Item::NONE).)
+    /// 13\. The list is not in use, or is an item without the flag
+    /// [`IS_LIST`](crate::Flags::IS_LIST). Only [`bind`](crate::bind) and
+    /// [`create_item`](crate::create_item) accept [`Item::NONE`](crate::Item::NONE) for it.
     List = 13,
-    /// 14\. Are the fields in range: role granted or removed not 0, kind at most 3, subject 0 for
-    /// kinds 2 and 3, flags below 4?
+    /// 14\. An argument is out of range: role 0 to be granted or taken back, a kind above 3, a
+    /// subject other than 0 in a line for the owner or for everyone, or flags above 3.
     Range = 14,
-    /// 15\. May the caller?
+    /// 15\. The caller may not do this. The documentation of each call says who may.
     Right = 15,
-    /// 16\. Is the parent in the tree of the caller or of its claimed role's grantor? Is the domain
-    /// in the caller's tree?
+    /// 16\. To define a subject: the parent is neither in the caller's tree nor in the tree of the
+    /// subject that granted the claimed role. To set a grant: the domain is not in the caller's tree.
+    /// The tree of a subject is itself and everybody below it.
     Tree = 16,
-    /// 17\. Is the row that is to be removed there?
+    /// 17\. The row to remove does not exist. Look at the receiver and role of the grant, or at the
+    /// list, kind and subject of the line.
     NoRow = 17,
-    /// 18\. To set a grant: is that receiver and role free or the caller's? To remove one: is the
-    /// caller the grantor or the custodian?
+    /// 18\. Another subject granted this role to this receiver. Only that subject may overwrite the
+    /// grant; it and the custodian may remove it.
     NotYours = 18,
-    /// 19\. Is a row free where one is added?
+    /// 19\. The table has no free row for the new one. Its capacity is fixed in the header.
     Full = 19,
-    /// 20\. Is there a subject other than the custodian that may edit the list?
+    /// 20\. Nobody but the custodian may edit the list without claiming a role.
     NoEditor = 20,
 }
 

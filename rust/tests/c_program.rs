@@ -1,5 +1,5 @@
-//! The library from C: programs that know nothing but the header are compiled, linked with the
-//! archive and run.
+//! The library from C: programs that include its header are compiled, linked with the archive and
+//! run.
 
 use std::path::{Path, PathBuf};
 use std::process::Command;
@@ -10,11 +10,11 @@ const FLAGS: [&str; 5] = ["-std=c99", "-Wall", "-Wextra", "-Wpedantic", "-Werror
 fn every_function_from_c() {
     let program = compile(&here().join("tests/c/calls.c"), "calls");
     let ended = Command::new(&program).status().expect("the program starts");
-    // The status is the number of the first check that failed.
+    // The exit status is the number of the first check that failed.
     assert_eq!(ended.code(), Some(0), "a check of calls.c failed");
 }
 
-/// The first program of the README prints what the README says.
+/// The first C program of the README prints what the README says.
 #[test]
 fn the_readme_from_c() {
     let readme = std::fs::read_to_string(here().join("../README.md")).expect("there is a README");
@@ -37,7 +37,7 @@ fn block<'a>(text: &'a str, language: &str) -> &'a str {
     rest.split_once("```").expect("the block ends").0
 }
 
-/// Compiles a C program against the header, links it with the archive and answers where it is.
+/// Compiles a C program with the header, links it with the archive and returns its path.
 fn compile(source: &Path, name: &str) -> PathBuf {
     let folder = Path::new(env!("CARGO_TARGET_TMPDIR")).join("c_program");
     std::fs::create_dir_all(&folder).expect("cargo's folder for tests takes another");

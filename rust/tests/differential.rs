@@ -1,7 +1,11 @@
 //! Every call on random, damaged and extreme images: the library against the twin.
 //!
-//! Compared are number, result and every byte of the image afterwards. At the end each call must
-//! have been accepted, and refused with each number that it can be refused with.
+//! Compared are the number, the result, the slice that `lines_of` shows, and every byte of the image
+//! afterwards. Of the editor search's result, the twin only checks that the subject may be named.
+//!
+//! The test of accepted images demands at its end that each call was accepted, and refused with each
+//! of its own questions. The test of damaged images demands that each call was refused with each of
+//! the questions 1 to 7.
 
 mod support;
 mod twin;
@@ -41,8 +45,8 @@ fn damaged_images() {
     coverage.assert_common_questions();
 }
 
-/// Every field of the sample and of some random images, each replaced by every value that may tell
-/// something.
+/// Every field of the sample and of some random images, replaced in turn by every value that is
+/// likely to show a fault.
 #[test]
 fn every_field_replaced() {
     replace_every_field("the sample", &sample());
@@ -96,7 +100,7 @@ fn each_call_on_libraries(
     }
 }
 
-/// Makes each call once, with arguments that suit these tables, each on the image as it was.
+/// Makes each call once, on a fresh copy of the image, with arguments chosen for these tables.
 fn each_call_on_a_copy(
     random: &mut Random,
     tables: &Tables,

@@ -1,6 +1,6 @@
-//! The library stays inside the image: memory that nobody may touch lies directly before or behind
-//! it, so that one byte too far ends the test program. During a call that only asks, the image
-//! itself may only be read.
+//! The library stays inside the image. Directly before or behind the image is memory that nobody may
+//! touch, so an access one byte too far ends the test program. During a call that only asks, the
+//! image itself may only be read.
 
 mod support;
 mod twin;
@@ -47,7 +47,7 @@ mod system {
     }
 }
 
-/// Where the image lies between the two guard pages.
+/// Which of the two guard pages the image touches.
 #[derive(Clone, Copy, Debug)]
 enum Side {
     AfterTheFirst,
@@ -62,7 +62,7 @@ struct GuardedPages {
 }
 
 impl GuardedPages {
-    /// Room for the longest image and for one that is too long.
+    /// Enough bytes for the longest image, and for one that is too long.
     const INNER_BYTES: usize = 17 * system::PAGE_BYTES;
     const ALL_BYTES: usize = Self::INNER_BYTES + 2 * system::PAGE_BYTES;
 
@@ -79,7 +79,7 @@ impl GuardedPages {
             )
         };
         assert_ne!(first as isize, -1, "the system gives no pages");
-        tell_the_case_of_a_fault();
+        print_the_case_of_a_fault();
         GuardedPages { first }
     }
 
@@ -88,14 +88,14 @@ impl GuardedPages {
     }
 
     fn allow(&mut self, protection: i32) {
-        // SAFETY: these are pages of our own, and no reference into them is alive: they are made
-        // from here on only.
+        // SAFETY: these are pages of our own, and no reference into them is alive: references are
+        // made only after this call.
         let answer = unsafe { system::mprotect(self.inner(), Self::INNER_BYTES, protection) };
         assert_eq!(answer, 0, "the system keeps the pages as they were");
     }
 
-    /// Where an image of this length touches a guard page.
-    fn place(&self, length: usize, side: Side) -> *mut u8 {
+    /// The address at which an image of this length touches the guard page on this side.
+    fn address(&self, length: usize, side: Side) -> *mut u8 {
         assert!(length <= Self::INNER_BYTES, "the image is too long");
         match side {
             Side::AfterTheFirst => self.inner(),
@@ -106,25 +106,25 @@ impl GuardedPages {
     /// Makes the call on a copy of the image in the guarded pages, and copies back what the call
     /// left.
     fn call(&mut self, image: &mut [u8], side: Side, call: &Call) -> Outcome {
-        let place = self.place(image.len(), side);
+        let address = self.address(image.len(), side);
         self.allow(system::READ_AND_WRITE);
         // SAFETY: the inner pages may be written now, and the image fits into them.
-        unsafe { ptr::copy_nonoverlapping(image.as_ptr(), place, image.len()) };
+        unsafe { ptr::copy_nonoverlapping(image.as_ptr(), address, image.len()) };
         let outcome = if call.only_asks() {
             self.allow(system::READ);
-            // SAFETY: the copy stands there, nobody writes it, and it is gone before the pages
-            // change again.
-            call.ask_library(unsafe { slice::from_raw_parts(place, image.len()) })
+            // SAFETY: the copy is at this address, nobody writes it, and the slice is gone before
+            // the protection of the pages changes again.
+            call.ask_library(unsafe { slice::from_raw_parts(address, image.len()) })
         } else {
-            // SAFETY: the copy stands there, and nobody else knows of it.
-            call.on_library(unsafe { slice::from_raw_parts_mut(place, image.len()) })
+            // SAFETY: the copy is at this address, and nobody else uses it.
+            call.on_library(unsafe { slice::from_raw_parts_mut(address, image.len()) })
         };
         // SAFETY: the inner pages may be read in both cases.
-        unsafe { ptr::copy_nonoverlapping(place, image.as_mut_ptr(), image.len()) };
+        unsafe { ptr::copy_nonoverlapping(address, image.as_mut_ptr(), image.len()) };
         outcome
     }
 
-    /// Makes the call on both sides of the pages, each time against the twin.
+    /// Makes the call at either guard page and compares it with the twin each time.
     fn compare(&mut self, image: &[u8], call: &Call, seed: &str) {
         for side in SIDES {
             let case = format!("{seed}, {side:?}: {call:?}");
@@ -156,29 +156,30 @@ thread_local! {
     static CASE: Cell<&'static str> = const { Cell::new("nothing") };
 }
 
-/// Does something that may end in a fault, which then tells the case.
+/// Does something that may end in a fault. The message of the fault then names the case.
 fn during<R>(case: &str, act: impl FnOnce() -> R) -> R {
-    // SAFETY: the case outlives its stay here, which ends below.
+    // SAFETY: the reference is replaced below, while the case still exists. Only after a panic in
+    // `act` it is not, and then the test has failed already.
     CASE.set(unsafe { &*ptr::from_ref(case) });
     let result = act();
     CASE.set("nothing");
     result
 }
 
-/// From now on a fault prints its case before it ends the program.
-fn tell_the_case_of_a_fault() {
-    extern "C" fn tell(number: i32) {
+/// From now on, a fault prints its case before it ends the program.
+fn print_the_case_of_a_fault() {
+    extern "C" fn print(number: i32) {
         let case = CASE.get();
         // SAFETY: both functions may be called while a signal is handled. When this returns, the
         // fault happens again, and its default action ends the program.
         unsafe {
-            for part in ["\noutside the image: ", case, "\n"] {
-                system::write(system::STANDARD_ERROR, part.as_ptr(), part.len());
+            for text in ["\noutside the image: ", case, "\n"] {
+                system::write(system::STANDARD_ERROR, text.as_ptr(), text.len());
             }
             system::signal(number, system::DEFAULT_ACTION);
         }
     }
-    let handler = tell as extern "C" fn(i32) as usize;
+    let handler = print as extern "C" fn(i32) as usize;
     // SAFETY: the handler is a function of the type that the system calls.
     unsafe { system::signal(system::SEGMENTATION_FAULT, handler) };
 }
@@ -213,7 +214,8 @@ fn damaged_images() {
     }
 }
 
-/// Every header field of the sample, with every value that may lead a call astray.
+/// Every header field of the sample, replaced in turn by every value that is likely to lead a call
+/// astray.
 #[test]
 fn damaged_headers() {
     let mut pages = GuardedPages::new();
@@ -229,7 +231,8 @@ fn damaged_headers() {
     }
 }
 
-/// The sample cut off or made longer, with and without the recorded total following.
+/// The sample cut off or made longer, once with its old total and once with the new length as its
+/// total.
 #[test]
 fn many_lengths() {
     let mut pages = GuardedPages::new();
@@ -259,11 +262,11 @@ fn boundary_lengths_and_contents() {
     }
 }
 
-/// The variable that tells this program, started by the test below, which touch to try.
+/// The test below starts this program again; this variable then says which touch to try.
 const TOUCH: &str = "DACM_TOUCH";
 
-/// The guards would notice: a program that reads the byte before or behind the image, or writes the
-/// image during a call that only asks, ends by a fault and tells its case.
+/// The guards work: a program that reads the byte before or behind the image, or writes the image
+/// while it may only be read, ends by a fault and prints its case.
 #[test]
 fn a_touch_outside_ends_the_program() {
     if let Ok(touch) = env::var(TOUCH) {
@@ -277,19 +280,19 @@ fn a_touch_outside_ends_the_program() {
             .output()
             .expect("this program starts again");
         assert_eq!(ended.status.signal(), Some(system::SEGMENTATION_FAULT));
-        let told = String::from_utf8_lossy(&ended.stderr).into_owned();
-        assert!(told.contains(&format!("outside the image: {touch}")));
+        let printed = String::from_utf8_lossy(&ended.stderr).into_owned();
+        assert!(printed.contains(&format!("outside the image: {touch}")));
     }
 }
 
 fn try_to(touch: &str) {
     let mut pages = GuardedPages::new();
     let length = 37;
-    // This leaves the pages as the last call needs them: to be read only.
+    // After this call, which only asks, the pages may only be read.
     pages.call(&mut vec![0; length], Side::AfterTheFirst, &Call::Check);
-    let first = pages.place(length, Side::AfterTheFirst);
-    let last = pages.place(length, Side::BeforeTheSecond);
-    // SAFETY: none of it is safe, and none of it comes back.
+    let first = pages.address(length, Side::AfterTheFirst);
+    let last = pages.address(length, Side::BeforeTheSecond);
+    // SAFETY: none of these accesses is safe. Each is meant to end the program.
     during(touch, || unsafe {
         match touch {
             "read before" => drop(first.wrapping_sub(1).read_volatile()),

@@ -12,7 +12,7 @@ use support::tables::{get_field, set_field, Table, Tables};
 /// Privileges to try where the paper names none.
 const SOME_PRIVILEGES: [u32; 5] = [0, 1, 127, 255, u32::MAX];
 
-/// Makes the call on both sides, which must agree, and answers number and result.
+/// Makes the call on the library and on the twin, which must agree, and returns number and result.
 fn answer(image: &mut [u8], call: Call) -> (u32, u32) {
     let Outcome { number, result, .. } = compare(image, &call, "no seed");
     (number, result)
@@ -187,7 +187,7 @@ fn lengths() {
     assert_eq!(answer(&mut too_long, Call::Check), refused(1));
 }
 
-/// The report's example: two subjects, and one item that the second owns, without a list.
+/// The paper's example of a report: two subjects, and an item without a list that subject 1 owns.
 #[test]
 fn the_report_of_72_bytes() {
     let tables = Tables {

@@ -1,4 +1,5 @@
-//! The report program, run on images: what it prints against files, and against the twin's report.
+//! The report program, run on images. What it prints is compared with files and with the twin's
+//! report.
 
 mod support;
 mod twin;
@@ -45,7 +46,7 @@ fn images_at_the_edges() {
     }
 }
 
-/// Question 1, however much comes in.
+/// The refusal is 1, however long the input is.
 #[test]
 fn more_bytes_than_an_image_has() {
     for length in [65_537, 70_000, 1_000_000] {
@@ -53,7 +54,8 @@ fn more_bytes_than_an_image_has() {
     }
 }
 
-/// The text is written in pages, which end in the middle of a subject's lines and at their end.
+/// The program writes its text in pages. Here pages end in the middle of a subject's lines, and at
+/// their end.
 #[test]
 fn many_pages() {
     for (subjects, items) in [(1, 1_040), (2, 1_040), (2, 1_041), (1_040, 1), (700, 900)] {
@@ -80,7 +82,7 @@ fn assert_as_twin(image: &[u8], name: &str) {
     assert_same(&report(image), &twins_report(image), name);
 }
 
-/// Names the first line that differs; the texts are too long to print.
+/// The message names the first line that differs, because the texts are too long to print.
 fn assert_same(said: &[u8], wanted: &[u8], name: &str) {
     if said == wanted {
         return;
@@ -98,7 +100,7 @@ fn assert_same(said: &[u8], wanted: &[u8], name: &str) {
     );
 }
 
-/// What the program prints. It may stop reading before all is written to it: that is no fault.
+/// What the program prints. It may stop reading before all is written to it; this is no fault.
 fn report(image: &[u8]) -> Vec<u8> {
     let program = here().join("../target/bin/report");
     let mut child = Command::new(&program)

@@ -1,4 +1,7 @@
 //! Long random sequences of calls on one image, as a host makes them: the library against the twin.
+//!
+//! Three calls in four are chosen among those that write the image, the others among all calls. At
+//! the end each call must have been accepted, and refused with each of its own questions.
 
 mod support;
 mod twin;
@@ -12,9 +15,10 @@ use support::random::Random;
 use support::rounds;
 use support::tables::Tables;
 
+/// How many calls a sequence has.
 const CALLS: usize = 1_000;
 
-/// Two tests for the two halves of the seeds, so that two cores share the work.
+/// Two tests, each with half of the seeds, so that two cores share the work.
 #[test]
 fn sequences_with_even_seeds() {
     run_sequences(0);
@@ -33,7 +37,7 @@ fn run_sequences(first_seed: u64) {
     coverage.assert_own_questions();
 }
 
-/// One sequence. Each call gets the image as the one before it left it, changed or refused.
+/// One sequence. All calls work on the same image, and after each it must still be accepted.
 fn run_sequence(seed: u64, coverage: &mut Coverage) {
     let random = &mut Random::new(seed);
     let mut image = Size::growing(random).library(random).image();
@@ -45,18 +49,14 @@ fn run_sequence(seed: u64, coverage: &mut Coverage) {
         } else {
             chooser.writing_call()
         };
-        let place = format!("seed {seed}, step {step}");
-        let outcome = compare(&mut image, &call, &place);
+        let case = format!("seed {seed}, step {step}");
+        let outcome = compare(&mut image, &call, &case);
         coverage.saw(&call, &outcome);
-        assert_still_accepted(&image, &call, &place);
+        assert_still_accepted(&image, &call, &case);
     }
 }
 
-fn assert_still_accepted(image: &[u8], call: &Call, place: &str) {
+fn assert_still_accepted(image: &[u8], call: &Call, case: &str) {
     let checked = dacm::check(image);
-    assert_eq!(
-        checked,
-        Ok(()),
-        "{place}: {call:?} left an unaccepted image"
-    );
+    assert_eq!(checked, Ok(()), "{case}: {call:?} left an unaccepted image");
 }

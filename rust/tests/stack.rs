@@ -1,5 +1,5 @@
-//! The stack that the library promises to stay within: every call that searches groups, on the
-//! deepest chains of groups that an image can hold, on a thread that has just so much.
+//! The stack that the library promises to be enough: every call that searches groups, on the longest
+//! chains of groups that fit into an image, on a thread that has exactly this stack.
 
 mod support;
 mod twin;
@@ -15,8 +15,8 @@ const IS_LIST: u32 = 1;
 const LONGEST: usize = 65_536;
 const SUBJECT_BYTES: usize = 12;
 
-/// Every subject below the one before, as many as fit beside these rows. The list is its own, and
-/// the custodian's.
+/// A chain of subjects, each below the one before, as many as fit beside these rows. The one item is
+/// a list, which is its own list and the custodian's.
 fn chain(grants: Vec<[u32; 5]>, lines: Vec<[u32; 4]>) -> Tables {
     let mut tables = Tables {
         subjects: Table::default(),
@@ -39,8 +39,8 @@ fn chain(grants: Vec<[u32; 5]>, lines: Vec<[u32; 4]>) -> Tables {
     tables
 }
 
-/// Runs something on a thread with the promised stack and no more. A thread that needs more ends
-/// the whole test program.
+/// Does some work on a thread with the promised stack and no more. If the work needs more, the whole
+/// test program ends.
 fn on_promised_stack<T: Send + 'static>(work: impl FnOnce() -> T + Send + 'static) -> T {
     let thread = thread::Builder::new().stack_size(STACK_BYTES).spawn(work);
     thread
@@ -49,7 +49,7 @@ fn on_promised_stack<T: Send + 'static>(work: impl FnOnce() -> T + Send + 'stati
         .expect("the calls return")
 }
 
-/// What every call that searches groups answers for the deepest subject, under no role.
+/// What the calls that search groups answer for the deepest subject, under no role.
 fn answers(mut image: Vec<u8>, deepest: Subject) -> [Result<u32, Refusal>; 4] {
     let list = Item(1);
     let set = dacm::permission_set(&image, deepest, Role::NONE, list);
@@ -86,7 +86,7 @@ fn a_group_line_at_the_top() {
     assert_eq!(answers, [Ok(EDIT_LIST | READ), Ok(1), Ok(0), Ok(0)]);
 }
 
-/// Under a role the search is made twice, for the asker and for the role's grantor.
+/// Under a role there are two searches: one for the asker, one for the role's grantor.
 #[test]
 fn under_a_role() {
     let grant = |asker: u32| vec![[asker, 7, asker - 1, asker - 1, ALL]];
@@ -100,7 +100,7 @@ fn under_a_role() {
     assert_eq!(set, Ok(0));
 }
 
-/// The header promises the same.
+/// The header promises the same stack.
 #[test]
 fn the_header_says_so() {
     let header = include_str!("../../include/dacm.h");

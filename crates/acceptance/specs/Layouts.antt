@@ -1,4 +1,4 @@
--- Question 2: the rules of one table, told by a callee that knows the size of its rows as a number.
+-- Question 2: the rules of one table. A callee tests them and is handed the size of the table's rows as a number.
 use mathlib.Core.Bool.{Bool, true, false, _&&_, not}
 use mathlib.Core.Path.{_≡_, ap, _∙_}
 use Prim.Native.Nat.{ℕ, _<_}
@@ -8,7 +8,7 @@ use Rattle.model.specs.Image.{Format, size, laidOutBy, subjectFormat, grantForm
 use Rattle.laws.specs.Tests.{and-no, and-yes, and-last, said-no, said-yes}
 use Rattle.laws.specs.Rows.{Lawful, subject-lawful, grant-lawful, line-lawful, item-lawful}
 
--- No row is empty: what a table's rules ask of the size. n is the size as a callee told it.
+-- No row is empty, as the test of a table's rules requires. n is the size that a callee answered.
 
 sized-wide : {A : Type 0} (f : Format A) (n : ℕ) → Lawful f → n ≡ size f → 0 < n
 sized-wide f n law sized = rw sized (law .wide)
@@ -26,7 +26,8 @@ module _ (lay : Layout) (n : ℕ) where
 pub items-wide : (n : ℕ) → n ≡ size itemFormat → 0 < n
 items-wide n = sized-wide itemFormat n item-lawful
 
--- One table among the rules: b is what was told of it, n the size with which it was asked, m the size by the definition. The rest of the list follows.
+-- One table in the list of rules. b is the callee's answer about it, n the size that the callee was handed, m the size
+-- by the definition, and `rest` whether the rules after it hold.
 module _ (t : Table) (n m : ℕ) (b rest : Bool) (said : b ≡ laidOutBy n t) (sized : n ≡ m) where
   laid-out-sized : b ≡ laidOutBy m t
   laid-out-sized = said ∙ ap (λ (k : ℕ). laidOutBy k t) sized

@@ -1,4 +1,4 @@
--- Passes through the rows of a table that end at the first row that breaks a rule. For any table.
+-- Passes through the rows of a table, for any table. A pass ends at the first row that breaks a rule.
 use mathlib.Core.Bool.{Bool, true, false, not, _&&_, and-false}
 use mathlib.Core.List.{List, [], _∷_}
 use mathlib.Core.Logic.{inl, inr}
@@ -15,7 +15,7 @@ use Rattle.model.specs.Image.{Format, rowsIn}
 use Rattle.laws.specs.Rows.{rows-count, rows-next}
 use Rattle.laws.specs.Tests.{T-true, true-T, two, eq-or-ne, lt-eq-gt, every-at, every-by}
 
--- Rows with a test that sees their number.
+-- Each row is tested together with its index.
 module _ {A : Type 0} (f : Format A) (t : Table) (img : List ℕ) (d : A) (test : ℕ → A → Bool) where
   -- the first n rows pass
   pub record Upto (n : ℕ) : Type 0 where
@@ -35,7 +35,8 @@ module _ {A : Type 0} (f : Format A) (t : Table) (img : List ℕ) (d : A) (test 
       elim (two (everyNumbered test (rowsIn f t img))) [
         | inl all ↦
             let one : test n (getD (rowsIn f t img) n d) ≡ true =
-            T-true (test n (getD (rowsIn f t img) n d)) (every-at test (rowsIn f t img) d (true-T (everyNumbered test (rowsIn f t img)) all) n there) in
+            T-true (test n (getD (rowsIn f t img) n d))
+            (every-at test (rowsIn f t img) d (true-T (everyNumbered test (rowsIn f t img)) all) n there) in
             sym (not-true b broken) ∙ e ∙ one ∙ sym all
         | inr some ↦ sym some
       ]
@@ -62,7 +63,7 @@ module _ {A : Type 0} (f : Format A) (t : Table) (img : List ℕ) (d : A) (test 
       (T-true (everyNumbered test (rowsIn f t img))
       (every-by test (rowsIn f t img) d (λ k l. u .passed k (omega (arith, rows-count f t img)))))
 
-  -- A pass through the first rows, where the others are rows of zeros.
+  -- A pass through the first n rows, where all others are rows of zeros.
   module _ (n : ℕ) (zeros-from : (k : ℕ) → n ≤ k → d ≡ getD (rowsIn f t img) k d) where
     pub upto-inside : Upto n → ((k : ℕ) → n ≤ k → T (test k d)) → true ≡ everyNumbered test (rowsIn f t img)
     upto-inside u held =
@@ -76,7 +77,7 @@ module _ {A : Type 0} (f : Format A) (t : Table) (img : List ℕ) (d : A) (test 
           | inr (inr high) ↦ rw (← zeros-from k (omega arith)) (held k (omega arith))
         ])))
 
-    -- with no row inside, the first row of zeros breaks its rules, unless there is none
+    -- if n is 0, the first row is a row of zeros and breaks its rules, unless no row is in use
     pub none-inside : n ≤ 0 → test 0 d ≡ false → (b : Bool) → b ≡ eqb (t .used) 0 → b ≡ everyNumbered test (rowsIn f t img)
     none-inside first broken b e =
         elim (eq-or-ne (t .used) 0) [
@@ -89,13 +90,15 @@ module _ {A : Type 0} (f : Format A) (t : Table) (img : List ℕ) (d : A) (test 
 
 -- Rows that each pass a test and ascend by a key.
 module _ {A : Type 0} (f : Format A) (t : Table) (img : List ℕ) (d : A) (rules : A → Bool) (key : A → List ℕ) where
-  -- the question is the same of the rows from n on, which come after the last one
+  -- n rows were passed; `last` is the last of them, and at first the row of zeros. The question about all rows has the same
+  -- answer as the question about the rows from n on, which must also come after `last`.
   pub record Ascends (n : ℕ) (last : A) : Type 0 where
     pub inside : n ≤ t .used
     pub same-question : (every rules (rowsIn f t img) && ascending key (rowsIn f t img))
         ≡ (every rules (drop n (rowsIn f t img)) && ascending key (last ∷ drop n (rowsIn f t img)))
 
-  -- a row that holds its rules comes after the row of zeros: the first row, which comes after none, may be asked like the others
+  -- A row that holds its rules comes after the row of zeros. So the first row, which has no row before it, may be tested
+  -- like the others.
   after-zeros : ((x : A) → rules x ≡ true → before (key d) (key x) ≡ true)
       → (xs : List A)
       → (every rules xs && ascending key xs) ≡ (every rules xs && ascending key (d ∷ xs))
@@ -106,7 +109,8 @@ module _ {A : Type 0} (f : Format A) (t : Table) (img : List ℕ) (d : A) (rules
   pub ascends-none : (last : A) → ((x : A) → rules x ≡ true → before (key d) (key x) ≡ true) → last ≡ d → Ascends 0 last
   ascends-none last low e = record { inside = omega arith; same-question = rw e (after-zeros low (rowsIn f t img)) }
 
-  module _ (n : ℕ) (last x : A) (a : Ascends n last) (h : n < t .used) (e : x ≡ getD (rowsIn f t img) n d) (b : Bool) (r : b ≡ rules x) where
+  module _ (n : ℕ) (last x : A) (a : Ascends n last) (h : n < t .used) (e : x ≡ getD (rowsIn f t img) n d)
+      (b : Bool) (r : b ≡ rules x) where
     pub ascends-broken : not b ≡ true → false ≡ (every rules (rowsIn f t img) && ascending key (rowsIn f t img))
     ascends-broken broken = rw (a .same-question, rows-next f t img d n x h e, ← r, not-true b broken)
 
@@ -127,7 +131,10 @@ module _ {A : Type 0} (f : Format A) (t : Table) (img : List ℕ) (d : A) (rules
             same-question = a .same-question ∙ rw (rows-next f t img d n x h e, ← r, not-false b held, ← l, not-false c after);
           })
 
-  pub ascends-all : (n : ℕ) (last : A) → Ascends n last → t .used ≤ n → true ≡ (every rules (rowsIn f t img) && ascending key (rowsIn f t img))
+  pub ascends-all : (n : ℕ) (last : A)
+      → Ascends n last
+      → t .used ≤ n
+      → true ≡ (every rules (rowsIn f t img) && ascending key (rowsIn f t img))
   unfolding ascending
   ascends-all n last a h =
       let past : length (rowsIn f t img) ≤ n = rw (rows-count f t img) h in

@@ -1,4 +1,4 @@
--- The rules of one row, as the code tests them: of a row that was read, and of a set that a callee gave.
+-- The rules of one row, as the code tests them: on rows that it has read, and on sets that a callee answered.
 use mathlib.Core.Bool.{Bool, true, false, not, and-false, false≢true}
 use mathlib.Core.List.{List, [], _∷_}
 use mathlib.Core.Logic.{inl, inr}
@@ -17,7 +17,9 @@ use Rattle.model.specs.declared.ItemRow.{ItemRow}
 use Rattle.model.specs.Lists.{allOf, everyNumbered}
 use Rattle.model.specs.Sorted.{before}
 use Rattle.model.specs.WhoAndWhat.{within}
-use Rattle.model.specs.Image.{Format, size, privilegesIn, firstRow, rowsIn, widthOf, subjectFormat, noSubject, custodianRules, itemIn, noItem, noLine, noGrant, lineKey, grantKey, subjectRules, itemRules, lineRules, grantRules}
+use Rattle.model.specs.Image.{Format, size, privilegesIn, firstRow, rowsIn, widthOf, subjectFormat}
+use Rattle.model.specs.Image.{noSubject, itemIn, noItem, noLine, noGrant, lineKey, grantKey}
+use Rattle.model.specs.Image.{custodianRules, subjectRules, itemRules, lineRules, grantRules}
 use Rattle.laws.specs.Tests.{eq-or-ne, and-i, true-T}
 use Rattle.laws.specs.Rows.{subject-lawful}
 use Rattle.rows.specs.Reading.{rowsSlice}
@@ -25,7 +27,7 @@ use Rattle.rows.specs.Among.{among-row, whole-few, zeros-past}
 use Rattle.acceptance.specs.Passes.{Upto, upto-broken, upto-inside, none-inside}
 use Rattle.acceptance.specs.SubjectRows.{among, rulesOf, rulesAmong}
 
--- Subjects. A row and its creator's are read from the bytes of the subjects' rows.
+-- Subjects. A subject's row and its creator's row are read from the bytes of the subjects' rows.
 
 module _ (lay : Layout) (rows : List ℕ) where
   module _ (n : ℕ) (x : SubjectRow) (b : Bool) (e : x ≡ among lay rows n) where
@@ -34,26 +36,35 @@ module _ (lay : Layout) (rows : List ℕ) where
     subject-first z r = rw (← e, z) r
 
     pub subject-later : (n ≡ 0 → ⊥)
-        → b ≡ allOf (ltb (x .parent .0) n ∷ ltb (x .creator .0) n ∷ within (x .privileges) (among lay rows (x .creator .0) .privileges) ∷ [])
+        → b
+        ≡ allOf
+        (ltb (x .parent .0) n ∷ ltb (x .creator .0) n ∷ within (x .privileges) (among lay rows (x .creator .0) .privileges) ∷ [])
         → b ≡ rulesAmong lay rows n
     unfolding rulesAmong
     subject-later h r = rw (← e) (later n h r)
       where
         later : (n : ℕ) → (n ≡ 0 → ⊥)
-            → b ≡ allOf (ltb (x .parent .0) n ∷ ltb (x .creator .0) n ∷ within (x .privileges) (among lay rows (x .creator .0) .privileges) ∷ [])
+            → b
+            ≡ allOf
+            (ltb (x .parent .0) n ∷ ltb (x .creator .0) n ∷ within (x .privileges) (among lay rows (x .creator .0) .privileges) ∷ [])
             → b ≡ rulesOf lay rows n x
         later zero h r = absurd (h refl)
         later (suc n) h r = r
 
-  -- a set held against the creator's row
-  pub creator-within : (y : SubjectRow) (s a : ℕ) (b : Bool) → y ≡ among lay rows s → b ≡ within a (y .privileges) → b ≡ within a (among lay rows s .privileges)
+  -- a set compared with the privileges in the creator's row
+  pub creator-within : (y : SubjectRow) (s a : ℕ) (b : Bool)
+      → y ≡ among lay rows s
+      → b ≡ within a (y .privileges)
+      → b ≡ within a (among lay rows s .privileges)
   creator-within y s a b e r = r ∙ ap (λ (x : SubjectRow). within a (x .privileges)) e
 
--- they are those of the table
+-- the rules read from the bytes are the rules of the row in the table
 pub rules-are : (lay : Layout) (img rows : List ℕ) (n : ℕ) (b : Bool)
     → rows ≡ rowsSlice (subjectFormat (widthOf lay)) (lay .subjects) img
     → b ≡ rulesAmong lay rows n
-    → b ≡ subjectRules (widthOf lay) (rowsIn (subjectFormat (widthOf lay)) (lay .subjects) img) n (getD (rowsIn (subjectFormat (widthOf lay)) (lay .subjects) img) n noSubject)
+    → b
+    ≡ subjectRules (widthOf lay) (rowsIn (subjectFormat (widthOf lay)) (lay .subjects) img) n
+    (getD (rowsIn (subjectFormat (widthOf lay)) (lay .subjects) img) n noSubject)
 unfolding rulesAmong
 rules-are lay img rows n b taken e = e ∙ go n
   where
@@ -73,7 +84,9 @@ rules-are lay img rows n b taken e = e ∙ go n
     go (suc n) =
         let here : SubjectRow = getD table (suc n) noSubject in
         ap (rulesOf lay rows (suc n)) (row (suc n))
-        ∙ ap (λ (y : SubjectRow). allOf (ltb (here .parent .0) (suc n) ∷ ltb (here .creator .0) (suc n) ∷ within (here .privileges) (y .privileges) ∷ []))
+        ∙ ap
+        (λ (y : SubjectRow).
+        allOf (ltb (here .parent .0) (suc n) ∷ ltb (here .creator .0) (suc n) ∷ within (here .privileges) (y .privileges) ∷ []))
         (row (here .creator .0))
 
 pub subject-broken : (lay : Layout) (img rows : List ℕ) (n : ℕ) (b : Bool)
@@ -85,14 +98,16 @@ pub subject-broken : (lay : Layout) (img rows : List ℕ) (n : ℕ) (b : Bool)
     ≡ everyNumbered (subjectRules (widthOf lay) (rowsIn (subjectFormat (widthOf lay)) (lay .subjects) img))
     (rowsIn (subjectFormat (widthOf lay)) (lay .subjects) img)
 subject-broken lay img rows n b taken used e broken =
-    upto-broken (subjectFormat (widthOf lay)) (lay .subjects) img noSubject (subjectRules (widthOf lay) (rowsIn (subjectFormat (widthOf lay)) (lay .subjects) img)) n b used
+    upto-broken (subjectFormat (widthOf lay)) (lay .subjects) img noSubject
+    (subjectRules (widthOf lay) (rowsIn (subjectFormat (widthOf lay)) (lay .subjects) img))
+    n b used
     (rules-are lay img rows n b taken e)
     broken
 
 none-within : (p : ℕ) → within 0 p ≡ true
 none-within p = ap (λ (x : ℕ). eqb x 0) (and-zero-l p)
 
--- rows of zeros hold the rules, but for the custodian's
+-- a row of zeros holds the rules of every subject but the custodian
 zeros-hold : (w : ℕ) (rows : List SubjectRow) (n : ℕ) → 0 < n → (k : ℕ) → n ≤ k → T (subjectRules w rows k noSubject)
 zeros-hold w rows n some zero h = absurd (omega arith)
 zeros-hold w rows n some (suc k) h =
@@ -100,7 +115,7 @@ zeros-hold w rows n some (suc k) h =
     let held : T (within 0 (privilegesIn rows 0)) = true-T (within 0 (privilegesIn rows 0)) (none-within (privilegesIn rows 0)) in
     and-i (ltb 0 (suc k)) _ low (and-i (ltb 0 (suc k)) _ low (and-i (within 0 (privilegesIn rows 0)) true held tt))
 
--- The whole pass: n rows were passed, all that are there whole.
+-- The whole pass. m is how many rows are entirely inside the image, and all of them were passed.
 module _ (lay : Layout) (img rows : List ℕ) (taken : rows ≡ rowsSlice (subjectFormat (widthOf lay)) (lay .subjects) img) (m : ℕ)
     (count : m ≡ length rows / size (subjectFormat (widthOf lay))) where
   abbrev format : Format SubjectRow
@@ -118,15 +133,20 @@ module _ (lay : Layout) (img rows : List ℕ) (taken : rows ≡ rowsSlice (subje
   past : (n : ℕ) → m ≤ n → (k : ℕ) → n ≤ k → noSubject ≡ getD table k noSubject
   past n all k h = zeros-past format (subject-lawful (widthOf lay)) (lay .subjects) img rows taken m count noSubject refl k (omega arith)
 
-  pub subjects-passed : (n : ℕ) → m ≤ n → 0 < n → Upto format (lay .subjects) img noSubject (subjectRules (widthOf lay) table) n
+  pub subjects-passed : (n : ℕ) → m ≤ n → 0 < n
+      → Upto format (lay .subjects) img noSubject (subjectRules (widthOf lay) table) n
       → true ≡ everyNumbered (subjectRules (widthOf lay) table) table
   subjects-passed n all some upto =
-      upto-inside format (lay .subjects) img noSubject (subjectRules (widthOf lay) table) n (past n all) upto (zeros-hold (widthOf lay) table n some)
+      upto-inside format (lay .subjects) img noSubject (subjectRules (widthOf lay) table) n (past n all) upto
+      (zeros-hold (widthOf lay) table n some)
 
-  pub subjects-none : (n : ℕ) → m ≤ n → n ≤ 0 → (b : Bool) → b ≡ eqb (lay .subjects .used) 0 → b ≡ everyNumbered (subjectRules (widthOf lay) table) table
-  subjects-none n all none b e = none-inside format (lay .subjects) img noSubject (subjectRules (widthOf lay) table) n (past n all) none refl b e
+  pub subjects-none : (n : ℕ) → m ≤ n → n ≤ 0 → (b : Bool)
+      → b ≡ eqb (lay .subjects .used) 0
+      → b ≡ everyNumbered (subjectRules (widthOf lay) table) table
+  subjects-none n all none b e =
+      none-inside format (lay .subjects) img noSubject (subjectRules (widthOf lay) table) n (past n all) none refl b e
 
--- a set held against one that a callee gave
+-- a set compared with one that a callee answered
 module _ (a p q : ℕ) (e : p ≡ q) where
   pub given-no : (a ≡ p → ⊥) → eqb a q ≡ false
   given-no h = ne-eqb a q (rw (← e) h)
@@ -134,7 +154,7 @@ module _ (a p q : ℕ) (e : p ≡ q) where
   pub given-yes : a ≡ p → eqb a q ≡ true
   given-yes h = eq-eqb a q (h ∙ e)
 
--- Items: item n + 1 is row n.
+-- Items: item n + 1 is the row with index n.
 
 pub item-row : (subjects : List SubjectRow) (items : List ItemRow) (n : ℕ) (x : ItemRow) (b : Bool)
     → x ≡ itemIn items n
@@ -171,6 +191,9 @@ pub line-follows : (subjects : List SubjectRow) (items : List ItemRow) (x : Line
 line-follows subjects items x r =
     zero-lower (x .list .0) (0 ∷ 0 ∷ []) (x .kind ∷ x .subject .0 ∷ []) (λ z. false≢true (rw z at r))
 
-pub grant-follows : (subjects : List SubjectRow) (x : GrantRow) → grantRules subjects x ≡ true → before (grantKey noGrant) (grantKey x) ≡ true
+pub grant-follows : (subjects : List SubjectRow) (x : GrantRow)
+    → grantRules subjects x ≡ true
+    → before (grantKey noGrant) (grantKey x) ≡ true
 grant-follows subjects x r =
-    zero-first (x .receiver .0) (0 ∷ []) (x .role .0 ∷ []) (zero-lower (x .role .0) [] [] (λ z. false≢true (rw (z, and-false) at r)))
+    zero-first (x .receiver .0) (0 ∷ []) (x .role .0 ∷ [])
+    (zero-lower (x .role .0) [] [] (λ z. false≢true (rw (z, and-false) at r)))

@@ -18,7 +18,8 @@ module _ (lay : Layout) (rows : List ℕ) where
   -- the rules of s as row n
   abbrev pub rulesOf : ℕ → SubjectRow → Bool
   rulesOf zero s = custodianRules (widthOf lay) s
-  rulesOf (suc n) s = allOf (ltb (s .parent .0) (suc n) ∷ ltb (s .creator .0) (suc n) ∷ within (s .privileges) (among (s .creator .0) .privileges) ∷ [])
+  rulesOf (suc n) s =
+      allOf (ltb (s .parent .0) (suc n) ∷ ltb (s .creator .0) (suc n) ∷ within (s .privileges) (among (s .creator .0) .privileges) ∷ [])
 
   unfoldable pub rulesAmong : ℕ → Bool
   rulesAmong n = rulesOf n (among n)

@@ -1,4 +1,5 @@
--- Question 7: whether bytes are all zero, all of them looked at, and the bytes between two places that may lie past the end.
+-- Question 7: whether bytes are all zero, by a loop that looks at each of them. Then the bytes between two offsets, which
+-- may be past the end.
 use mathlib.Core.Bool.{Bool, true, _&&_, and-assoc, and-true}
 use mathlib.Core.List.{List}
 use mathlib.Core.Logic.{⊎-elim}
@@ -13,7 +14,7 @@ use lib.ListN.{length, getD, take, drop, length-drop, drop-of-length-le}
 use lib.Seq.{drop-cons, take-all, take-nil}
 use Rattle.model.specs.Lists.{zeros}
 
--- two sets of bits are both empty where what they have together is
+-- the union of two sets of bits is empty exactly if both are
 or-empty : (a b : ℕ) → eqb (bitOr a b) 0 ≡ (eqb a 0 && eqb b 0)
 or-empty a b =
     ⊎-elim
@@ -24,7 +25,7 @@ or-empty a b =
     (eq-zero-or-pos a)
 
 module _ (s : List ℕ) where
-  -- the bits of the first n bytes were seen together, and the other bytes are still to be looked at
+  -- `seen` is the union of the bits of the first n bytes; the other bytes are still to be looked at
   pub record Seen (n seen : ℕ) : Type 0 where
     pub inside : n ≤ length s
     pub rest : zeros s ≡ (eqb seen 0 && zeros (drop n s))
@@ -40,7 +41,8 @@ module _ (s : List ℕ) where
   pub seen-all : (n seen : ℕ) → Seen n seen → length s ≤ n → eqb seen 0 ≡ zeros s
   seen-all n seen z h = sym (z .rest ∙ rw (drop-of-length-le s {i = n} h) (and-true (eqb seen 0)))
 
--- The bytes between two places. They end at the second, or where all bytes end if that comes first: `end` is either.
+-- The bytes between two offsets. They end at the second offset, or where all bytes end if that is lower: `end` is one of
+-- the two.
 module _ (s : List ℕ) (from to end : ℕ) where
   pub none-before : end ≡ to → end ≤ from → true ≡ zeros (take (to - from) (drop from s))
   none-before e h =
@@ -65,7 +67,7 @@ module _ (s : List ℕ) (from to end : ℕ) where
       let more : length (drop from s) ≤ to - from = rw (length-drop from s) (omega (arith, h)) in
       t ∙ rw (take-all (end - from) (drop from s) all, take-all (to - from) (drop from s) more)
 
--- from is the place as a callee told it.
+-- `from` is the offset that a callee answered.
 pub from-offset : (s : List ℕ) (from to offset : ℕ) (b : Bool)
     → from ≡ offset
     → b ≡ zeros (take (to - from) (drop from s))

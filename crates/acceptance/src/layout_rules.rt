@@ -1,4 +1,4 @@
-// Questions 1 and 2: the length, and where the tables lie.
+// Questions 1 and 2: the length of the image, and how its tables are laid out.
 ghost use mathlib.Core.Bool.{_&&_};
 ghost use mathlib.Core.Path.{_≡_};
 ghost use Prim.Native.Nat.{_<_};
@@ -34,7 +34,7 @@ pub fn header_holds(image: &[u8], layout: Layout) -> bool
     subjects.start as usize == Layout::HEADER
 }
 
-// Every table lies right: the rules of the tables but for the last.
+// Each of the four tables is laid out. These are the rules of the tables but for the last one, which is `has_subject`.
 pub fn tables_laid_out(layout: Layout) -> bool
     ensures { λ r. ⌜ r ≡ allOf (take 4 (tableRules layout)) ⌝ }
 {
@@ -50,7 +50,7 @@ pub fn tables_laid_out(layout: Layout) -> bool
     laid_out(layout.items, item_size(layout))
 }
 
-// The last: a subject is in use.
+// The last rule of the tables: a subject is in use.
 pub fn has_subject(layout: Layout) -> bool
     ensures { λ r. ⌜ r ≡ leb 1 (layout .subjects .used) ⌝ }
 {
@@ -58,8 +58,9 @@ pub fn has_subject(layout: Layout) -> bool
     1 <= subjects.used
 }
 
-// A table does not end before it starts, is whole rows, and has room for those in use. The rows in use are compared with the capacity: a
-// product with a count out of the header could be too large.
+// A table does not end before it starts, consists of whole rows, and its rows in use are within its capacity. They are
+// compared with the capacity, because their number comes from the header: multiplied by the size of a row, it could be
+// too large.
 fn laid_out(table: Table, size: usize) -> bool
     requires { ⌜ 0 < size ⌝ }
     ensures { λ r. ⌜ r ≡ laidOutBy size table ⌝ }

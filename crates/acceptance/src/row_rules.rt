@@ -1,5 +1,5 @@
-// Questions 3 to 6: the rules of the rows, table by table. Each pass ends at the first row that breaks one. A climb stands behind the test that its number
-// is in use, so that its length is bounded by the table.
+// Questions 3 to 6: the rules of the rows, table by table. Each pass ends at the first row that breaks a rule. A climb
+// from a subject to its parents comes after the test that the subject is in use. So the table bounds the climb's length.
 ghost use mathlib.Core.Path.{_≡_};
 ghost use Rattle.model.specs.Image.{tablesBy, widthOf, itemIn, subjectsHold, itemsHold, linesHold, grantsHold};
 ghost use Rattle.model.specs.Image.{custodianRules, itemRules, lineRules, grantRules};
@@ -28,7 +28,8 @@ use tables::items::none_or_list;
 use tables::subjects::in_tree;
 use tables::subjects::subject_used;
 
-// The pass goes through the rows that are there whole. Any other is a row of zeros, which holds the rules of every subject but the custodian.
+// The pass goes through the rows that are entirely inside the image. Every other row counts as a row of zeros, which holds
+// the rules of every subject but the custodian.
 pub fn subjects_hold(image: &[u8], layout: Layout) -> bool
     ensures { λ r. ⌜ r ≡ subjectsHold (tablesBy layout (now (image .entry))) ⌝ }
 {
@@ -48,7 +49,7 @@ pub fn subjects_hold(image: &[u8], layout: Layout) -> bool
     table.used == 0
 }
 
-// Subject n among the bytes of the subjects' rows.
+// Whether subject n holds its rules; `rows` are the bytes of all subjects' rows.
 fn subject_fits(rows: &[u8], layout: Layout, n: u32) -> bool
     ensures { λ r. ⌜ r ≡ rulesAmong layout (now (rows .entry)) n ⌝ }
 {
@@ -108,8 +109,8 @@ fn item_fits(image: &[u8], layout: Layout, item: Item) -> bool
     row.flags < ItemRow::FLAGS
 }
 
-// Lines hold their rules and ascend. A row that holds its rules names a list, so its key comes after that of a row of zeros: the first row
-// needs no case of its own.
+// Lines hold their rules and ascend. A row that holds its rules names a list, so its key comes after that of a row of
+// zeros. So the first row needs no case of its own.
 pub fn lines_hold(image: &[u8], layout: Layout) -> bool
     ensures { λ r. ⌜ r ≡ linesHold (tablesBy layout (now (image .entry))) ⌝ }
 {

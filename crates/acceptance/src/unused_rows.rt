@@ -37,7 +37,7 @@ pub fn unused_is_zero(image: &[u8], layout: Layout) -> bool
     zero_between(image, item_offset(layout, items.used), items.end as usize)
 }
 
-// Bytes that run past the end of the image are none.
+// Whether all bytes between two offsets are zero. Past the end of the image there are no bytes.
 fn zero_between(image: &[u8], from: usize, to: usize) -> bool
     ensures { λ r. ⌜ r ≡ zeros (take (to - from) (drop from (now (image .entry)))) ⌝ }
 {
@@ -48,7 +48,7 @@ fn zero_between(image: &[u8], from: usize, to: usize) -> bool
     is_zero(&image[from..end])
 }
 
-// Every byte is looked at: a pass that may end at any byte could not take many at once.
+// Every byte is looked at. A loop that may end at any byte could not take many bytes at once.
 fn is_zero(bytes: &[u8]) -> bool
     ensures { λ r. ⌜ r ≡ zeros (now (bytes .entry)) ⌝ }
 {

@@ -1,4 +1,4 @@
--- The editor search, return by return.
+-- What the editor search answers at each of its returns.
 use mathlib.Core.Bool.{Bool, true, false, not, false≢true}
 use mathlib.Core.List.{List, [], _++_}
 use mathlib.Core.Logic.{inl, inr}
@@ -23,7 +23,7 @@ use Rattle.asking.specs.Editors.{not-used}
 use Rattle.laws.specs.Opens.{refused-by, layout-with}
 use Rattle.laws.specs.Asks.{number-image, number-own}
 
--- Question 20.
+-- Question 20: is there an editor?
 module _ (t : Tables) (a : ℕ) where
   none-there : ((s : ℕ) → isEditor t s a ≡ false) → someNumbered (λ s (row : SubjectRow). isEditor t s a) (t .subjects) ≡ false
   none-there h =
@@ -45,9 +45,10 @@ module _ (t : Tables) (a : ℕ) where
           absurd (rw e at here)
       go false some = refl
 
--- The call, return by return. o is what opening the image came to.
+-- What `find_editor` answers at each of its returns. o is what `open` answered.
 module _ (img : List ℕ) (o : Opened) (is : o ≡ opened img) (a : ℕ) (r : Answer) where
-  refused : (k : ℕ) → (k ≡ 0 → ⊥) → k ≡ firstNo (imageQuestions img ++ editorQuestions (tables img) a) → r ≡ answer k 0 → EditorAnswer img a r
+  refused : (k : ℕ) → (k ≡ 0 → ⊥) → k ≡ firstNo (imageQuestions img ++ editorQuestions (tables img) a) → r ≡ answer k 0
+      → EditorAnswer img a r
   refused k h e f =
       record {
         number-decided = ap (λ (x : Answer). x .number) f ∙ e;
@@ -74,7 +75,9 @@ module _ (img : List ℕ) (o : Opened) (is : o ≡ opened img) (a : ℕ) (r : An
       unfolding editorQuestions
       editor-none z e =
           refused 20 (λ z. omega arith)
-          (own 20 (asked-yes 13 _ _ b said 20 listed (asked-no 20 _ [] false (sym (none-there (tablesBy lay img) a (editor .nobody z))) refl))) e
+          (own 20
+          (asked-yes 13 _ _ b said 20 listed (asked-no 20 _ [] false (sym (none-there (tablesBy lay img) a (editor .nobody z))) refl)))
+          e
 
       pub editor-found : (s ≡ 0 → ⊥) → r ≡ answer 0 s → EditorAnswer img a r
       unfolding editorQuestions

@@ -60,7 +60,7 @@ module _ (t : Tables) (a : ℕ) where
         all : (s : ℕ) → isEditor t s a ≡ false
         all s = elim (le-or-lt n s) [ inl past ↦ not-used s (omega arith) | inr low ↦ tried .passed s low ]
 
--- as many subjects as the layout says
+-- the subjects' table has as many rows as the layout says are in use
 pub subjects-used : (lay : Layout) (img : List ℕ) → lay .subjects .used ≡ length (tablesBy lay img .subjects)
 unfolding tablesBy
 subjects-used lay img = sym (rows-count (subjectFormat (widthOf lay)) (lay .subjects) img)

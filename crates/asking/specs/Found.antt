@@ -1,4 +1,5 @@
--- What the contracts of `asking` cite beside the definitions of `model`: the rows of a list among the lines, and what the search for an editor found.
+-- What the contracts of `asking` cite beside the definitions of `model`: the rows of a list among the lines, and what the
+-- search for an editor found.
 use mathlib.Core.Bool.{true, false, cond}
 use mathlib.Core.List.{List, [], _∷_}
 use mathlib.Core.Path.{_≡_}
@@ -13,20 +14,21 @@ use Rattle.model.specs.Questions.{answer, ask}
 use Rattle.asking.specs.declared.list_rows.ListRows.{ListRows}
 use Rattle.asking.specs.declared.list_rows.ListRows.the-variants.{Rows, Refused}
 
--- the lowest key of list a
+-- the lowest key that a line of list a can have
 abbrev pub lowest : ℕ → List ℕ
 lowest a = a ∷ 0 ∷ 0 ∷ []
 
--- how many rows at the head name list a
+-- how many rows name list a, from the first row on and without a gap
 unfoldable pub leading : ℕ → List LineRow → ℕ
 leading a [] = 0
 leading a (l ∷ ls) = cond (eqb (l .list .0) a) (suc (leading a ls)) 0
 
--- the bytes of a line
+-- how many bytes a line has
 abbrev pub lineSize : List ℕ → ℕ
 lineSize img = size (lineFormat (widthOf (layoutOf img)))
 
--- The refusal number, the first row and the row before which they end. Refused, there are no rows.
+-- The rows of list a: `number` is the refusal, or 0. The rows start at index `first` and end before index `end`. A refused
+-- call shows no rows.
 pub record Shown (img : List ℕ) (a number first end : ℕ) : Type 0 where
   pub answers : answer number (end - first) ≡ ask img (listCount a)
   pub ordered : first ≤ end
@@ -35,7 +37,7 @@ pub record Shown (img : List ℕ) (a number first end : ℕ) : Type 0 where
   pub counts : number ≡ 0 → end ≡ first + length (rowsOf a (tables img .lines))
   pub inside : number ≡ 0 → layoutOf img .lines .start + end * lineSize img ≤ length img
 
--- What the code answers: the rows, by the layout of the image, or the number of the refusal.
+-- What the code answers: the rows, with the layout of the image, or the refusal.
 abbrev pub ShownBy : List ℕ → ℕ → ListRows → Type 0
 ShownBy img a (Rows lay first end) = Shown img a 0 first end × (lay ≡ layoutOf img)
 ShownBy img a (Refused n) = Shown img a n 0 0 × (n ≡ 0 → ⊥)

@@ -1,4 +1,4 @@
--- What contracts cite beside the definitions of `model`; then laws in the form in which the code looks and the calls answer.
+-- First what the contracts cite beside the definitions of `model`; then laws, in the form that the proofs of the code use.
 pub mod Found
 pub mod Runs
 pub mod Shown

@@ -1,5 +1,5 @@
--- The rows of one list stand together, for lines ascend by their lists first: they begin at the place of the list's lowest key and go on as long as
--- rows name the list.
+-- The rows of one list stand together, because lines ascend by their list first. They start at the insertion index of the
+-- list's lowest key and go on as long as rows name the list.
 use mathlib.Core.Bool.{Bool, true, false, _&&_, cond, or-false, and-false}
 use mathlib.Core.List.{List, [], _∷_}
 use mathlib.Core.Logic.{inl, inr}
@@ -27,7 +27,8 @@ leading-few a (l ∷ ls) =
     let ih : leading a ls ≤ length ls = leading-few a ls in
     elim (eqb (l .list .0) a) as (λ b. cond b (suc (leading a ls)) 0 ≤ suc (length ls)) [ true ↦ omega arith | false ↦ omega arith ]
 
--- Counted row by row, from row `first` on.
+-- The code counts row by row, from index `first` on. `Run end` says that counting on from index `end` gives the same sum as
+-- counting from `first`.
 module _ (f : Format LineRow) (t : Table) (img : List ℕ) (a first : ℕ) where
   pub record Run (end : ℕ) : Type 0 where
     pub behind : first ≤ end
@@ -59,7 +60,8 @@ module _ (f : Format LineRow) (t : Table) (img : List ℕ) (a first : ℕ) where
         let over : leading a (drop end (rowsIn f t img)) ≡ 0 = rw (drop-of-length-le (rowsIn f t img) {i = end} past) in
         omega (arith, run .rest)
 
--- What is counted, where the lines ascend.
+-- Where the lines ascend, the rows of a list start behind all rows of lower lists, and the count is the number of all its
+-- rows.
 
 none-lower : (k s : ℕ) → before (k ∷ s ∷ []) (0 ∷ 0 ∷ []) ≡ false
 none-lower k s = rw (le-ltb k 0 (omega arith), le-ltb s 0 (omega arith), and-false, and-false)
@@ -71,31 +73,41 @@ select-same : {A : Type 0} (p q : A → Bool) → ((x : A) → p x ≡ q x) → 
 select-same p q e [] = refl
 select-same p q e (x ∷ xs) = rw (e x, select-same p q e xs)
 
-pub run-begins : (a : ℕ) (rows : List LineRow) → T (ascending lineKey rows) → insertionIndex lineKey (lowest a) rows ≡ length (rowsBefore a rows)
+pub run-begins : (a : ℕ) (rows : List LineRow) → T (ascending lineKey rows)
+    → insertionIndex lineKey (lowest a) rows ≡ length (rowsBefore a rows)
 run-begins a rows t =
     index-counts lineKey (lowest a) rows t
-    ∙ ap length (select-same (λ (l : LineRow). before (lineKey l) (lowest a)) (λ (l : LineRow). ltb (l .list .0) a) (λ (l : LineRow). lower-list l a) rows)
+    ∙ ap length
+    (select-same (λ (l : LineRow). before (lineKey l) (lowest a)) (λ (l : LineRow). ltb (l .list .0) a)
+    (λ (l : LineRow). lower-list l a) rows)
 
 -- a lower key has a list that is not higher
 lists-rise : (x y : LineRow) → T (before (lineKey x) (lineKey y)) → x .list .0 ≤ y .list .0
 lists-rise x y t =
-    elim (or-cases (ltb (x .list .0) (y .list .0)) (eqb (x .list .0) (y .list .0) && before (x .kind ∷ x .subject .0 ∷ []) (y .kind ∷ y .subject .0 ∷ [])) t) [
+    elim
+    (or-cases (ltb (x .list .0) (y .list .0))
+    (eqb (x .list .0) (y .list .0) && before (x .kind ∷ x .subject .0 ∷ []) (y .kind ∷ y .subject .0 ∷ [])) t) [
       | inl low ↦ omega (arith, leb→le (suc (x .list .0)) (y .list .0) low)
       | inr same ↦
-          omega
-          (arith, eqb→eq (x .list .0) (y .list .0) (and-l (eqb (x .list .0) (y .list .0)) (before (x .kind ∷ x .subject .0 ∷ []) (y .kind ∷ y .subject .0 ∷ [])) same))
+          omega (
+            arith,
+            eqb→eq (x .list .0) (y .list .0)
+                (and-l (eqb (x .list .0) (y .list .0)) (before (x .kind ∷ x .subject .0 ∷ []) (y .kind ∷ y .subject .0 ∷ [])) same),
+          )
     ]
 
--- past the list there are no more rows of it
+-- from a row of a higher list on, no row names list a
 past-list : (a : ℕ) (x : LineRow) (xs : List LineRow) → T (ascending lineKey (x ∷ xs)) → a < x .list .0 → rowsOf a (x ∷ xs) ≡ []
 unfolding ascending
 past-list a x [] t h = rw (ne-eqb (x .list .0) a (omega arith))
 past-list a x (y ∷ ys) t h =
     let rise : x .list .0 ≤ y .list .0 = lists-rise x y (and-l (before (lineKey x) (lineKey y)) (ascending lineKey (y ∷ ys)) t) in
-    rw (ne-eqb (x .list .0) a (omega arith)) (past-list a y ys (and-r (before (lineKey x) (lineKey y)) (ascending lineKey (y ∷ ys)) t) (omega arith))
+    rw (ne-eqb (x .list .0) a (omega arith))
+    (past-list a y ys (and-r (before (lineKey x) (lineKey y)) (ascending lineKey (y ∷ ys)) t) (omega arith))
 
--- at or past the list, the rows at the head that name it are all of them
-from-list : (a : ℕ) (x : LineRow) (xs : List LineRow) → T (ascending lineKey (x ∷ xs)) → a ≤ x .list .0 → leading a (x ∷ xs) ≡ length (rowsOf a (x ∷ xs))
+-- from a row of list a or of a higher list on, the leading rows of list a are all its rows
+from-list : (a : ℕ) (x : LineRow) (xs : List LineRow) → T (ascending lineKey (x ∷ xs)) → a ≤ x .list .0
+    → leading a (x ∷ xs) ≡ length (rowsOf a (x ∷ xs))
 unfolding leading ascending
 from-list a x [] t h = elim (two (eqb (x .list .0) a)) [ inl e ↦ rw e | inr e ↦ rw e ]
 from-list a x (y ∷ ys) t h =
@@ -109,7 +121,8 @@ from-list a x (y ∷ ys) t h =
           stops ∙ sym (ap length past)
     ]
 
-pub run-counts : (a : ℕ) (rows : List LineRow) → T (ascending lineKey rows) → leading a (drop (insertionIndex lineKey (lowest a) rows) rows) ≡ length (rowsOf a rows)
+pub run-counts : (a : ℕ) (rows : List LineRow) → T (ascending lineKey rows)
+    → leading a (drop (insertionIndex lineKey (lowest a) rows) rows) ≡ length (rowsOf a rows)
 unfolding leading insertionIndex
 run-counts a [] t = refl
 run-counts a (x ∷ xs) t =

@@ -1,4 +1,4 @@
--- Lines of a list: the rows that are shown, their count, and the bytes of the image that they are.
+-- The rows of a list that are shown: their count, and which bytes of the image they are.
 use mathlib.Core.Bool.{Bool, true, false, not, _&&_, and-false}
 use mathlib.Core.List.{List, []}
 use mathlib.Core.Path.{_≡_, refl, sym, ap, _∙_}
@@ -44,30 +44,34 @@ none-shown img a k h e =
       inside = λ z. absurd (h z);
     }
 
--- where an image is accepted its lines ascend, and the rows in use end inside
+-- in an accepted image the lines ascend, and the rows in use end inside the image
 lines-ascend : (img : List ℕ) → check img ≡ 0 → T (ascending lineKey (tables img .lines))
 unfolding imageQuestions linesHold
 lines-ascend img ok =
     let passed : Passed (imageQuestions img) = image-passed img ok in
-    and-r (every (lineRules (tables img .subjects) (tables img .items)) (tables img .lines)) (ascending lineKey (tables img .lines)) (passed .1 .1 .1 .1 .0)
+    and-r (every (lineRules (tables img .subjects) (tables img .items)) (tables img .lines)) (ascending lineKey (tables img .lines))
+    (passed .1 .1 .1 .1 .0)
 
-lines-end : (img : List ℕ) (n : ℕ) → check img ≡ 0 → n ≤ length (tables img .lines) → layoutOf img .lines .start + n * lineSize img ≤ length img
+lines-end : (img : List ℕ) (n : ℕ) → check img ≡ 0 → n ≤ length (tables img .lines)
+    → layoutOf img .lines .start + n * lineSize img ≤ length img
 unfolding tablesBy
 lines-end img n ok few =
     let w : ℕ = widthOf (layoutOf img) in
     let facts : Laid img = laid img ok in
     let used : n ≤ layoutOf img .lines .used = rw (rows-count (lineFormat w) (layoutOf img .lines) img) at few in
     let wide : n * lineSize img ≤ layoutOf img .lines .used * lineSize img = mul-le-mul-right (lineSize img) used in
-    let first : layoutOf img .lines .start ≤ layoutOf img .lines .end = starts-before-end (lineFormat w) (line-lawful w) (layoutOf img .lines) img (facts .lines-laid-out) in
+    let first : layoutOf img .lines .start ≤ layoutOf img .lines .end =
+    starts-before-end (lineFormat w) (line-lawful w) (layoutOf img .lines) img (facts .lines-laid-out) in
     let rows : layoutOf img .lines .used * lineSize img ≤ layoutOf img .lines .end - layoutOf img .lines .start =
     rows-extent (lineFormat w) (line-lawful w) (layoutOf img .lines) img (facts .lines-laid-out) in
     let last : layoutOf img .lines .end ≤ length img = lines-inside img facts in
-    within (layoutOf img .lines .start) (layoutOf img .lines .end) (n * lineSize img) (layoutOf img .lines .used * lineSize img) (length img) wide first rows last
+    within (layoutOf img .lines .start) (layoutOf img .lines .end) (n * lineSize img) (layoutOf img .lines .used * lineSize img)
+    (length img) wide first rows last
   where
     within : (s e x y l : ℕ) → x ≤ y → s ≤ e → y ≤ e - s → e ≤ l → s + x ≤ l
     within s e x y l p q r u = omega arith
 
--- The rows asked for, return by return. o is what opening the image came to.
+-- What `shown_rows` answers at each of its returns. o is what `open` answered.
 module _ (img : List ℕ) (o : Opened) (is : o ≡ opened img) (a : ℕ) where
   pub shown-image : (n : ℕ) → o ≡ Refused n → ShownBy img a (list.Refused n)
   shown-image n case =
@@ -91,7 +95,8 @@ module _ (img : List ℕ) (o : Opened) (is : o ≡ opened img) (a : ℕ) where
         let accepted : check img ≡ 0 = opened-with img o is lay case .0 in
         let there : lay ≡ layoutOf img = layout-with img o is lay case in
         let asc : T (ascending lineKey (tables img .lines)) = lines-ascend img accepted in
-        let first-is : first ≡ insertionIndex lineKey (lowest a) (tables img .lines) = at ∙ ap (λ (l : Layout). insertionIndex lineKey (lowest a) (tablesBy l img .lines)) there in
+        let first-is : first ≡ insertionIndex lineKey (lowest a) (tables img .lines) =
+        at ∙ ap (λ (l : Layout). insertionIndex lineKey (lowest a) (tablesBy l img .lines)) there in
         let end-is : end ≡ first + leading a (drop (insertionIndex lineKey (lowest a) (tables img .lines)) (tables img .lines)) =
         to
         ∙ ap (λ (l : Layout). first + leading a (drop first (tablesBy l img .lines))) there
@@ -100,13 +105,16 @@ module _ (img : List ℕ) (o : Opened) (is : o ≡ opened img) (a : ℕ) where
         end-is ∙ ap (λ (k : ℕ). first + k) (run-counts a (tables img .lines) asc) in
         let rows-counted : end - first ≡ length (rowsOf a (tables img .lines)) = omega arith in
         let near : first ≤ length (tables img .lines) = rw first-is (index-le lineKey (lowest a) (tables img .lines)) in
-        let few : leading a (drop (insertionIndex lineKey (lowest a) (tables img .lines)) (tables img .lines)) ≤ length (tables img .lines) - first =
-        rw first-is (rw (length-drop) at (leading-few a (drop (insertionIndex lineKey (lowest a) (tables img .lines)) (tables img .lines)))) in
+        let few : leading a (drop (insertionIndex lineKey (lowest a) (tables img .lines)) (tables img .lines))
+        ≤ length (tables img .lines) - first =
+        rw first-is
+        (rw (length-drop) at (leading-few a (drop (insertionIndex lineKey (lowest a) (tables img .lines)) (tables img .lines)))) in
         let far : end ≤ length (tables img .lines) = omega arith in (
           record {
             answers =
                 ask-done img o is (listCount a) (answer 0 (end - first)) lay case (end - first)
-                (asked-yes 13 _ [] b listed 0 h asked-all) (rows-counted ∙ ap (λ (l : Layout). length (rowsOf a (tablesBy l img .lines))) (sym there)) refl;
+                (asked-yes 13 _ [] b listed 0 h asked-all)
+                (rows-counted ∙ ap (λ (l : Layout). length (rowsOf a (tablesBy l img .lines))) (sym there)) refl;
             ordered = omega arith;
             refused-none = λ d. absurd (d refl);
             begins = λ z. first-is ∙ run-begins a (tables img .lines) asc;
@@ -116,7 +124,7 @@ module _ (img : List ℕ) (o : Opened) (is : o ≡ opened img) (a : ℕ) where
           there,
         )
 
--- Where they start in the image and how long they are.
+-- Where the rows start in the image and how many bytes they have.
 module _ (img : List ℕ) (a number first end : ℕ) (shown : Shown img a number first end) where
   shows-is : shows img a ≡ (eqb number 0 && not (eqb (end - first) 0))
   shows-is = rw (← shown .answers)
@@ -156,7 +164,7 @@ module _ (img : List ℕ) (a number first end : ℕ) (shown : Shown img a number
         let rows : length (rowsOf a (tables img .lines)) ≡ end - first = omega (arith, shown .counts passed) in
         rw (visible, rows)
 
--- What the calls tell of them. o is what the code was told, and which case it is.
+-- What the calls answer about the rows. o is what `shown_rows` answered, and each module takes one of its cases.
 module _ (img : List ℕ) (a : ℕ) (o : ListRows) (is : ShownBy img a o) where
   module _ (n : ℕ) (case : o ≡ list.Refused n) where
     refused : Shown img a n 0 0 × (n ≡ 0 → ⊥)
@@ -191,7 +199,7 @@ module _ (img : List ℕ) (a : ℕ) (o : ListRows) (is : ShownBy img a o) where
       pub no-start : 0 ≡ listStart img a
       no-start = none-start img a 0 first end (rows .0) none
 
-      -- p is where the image stands
+      -- p is the byte at which the image starts in its block of memory
       pub no-at : (p : ℕ) → p ≡ listStart img a + p
       no-at p = rw (← no-start) (sym (zero-add p))
 

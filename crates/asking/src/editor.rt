@@ -1,4 +1,4 @@
-// The call that asks for somebody who may edit a list.
+// The call that finds a subject that may edit a list.
 ghost use mathlib.Core.Path.{_≡_};
 ghost use Rattle.model.specs.WhoAndWhat.{editList, has};
 ghost use Rattle.model.specs.Image.{tablesBy};
@@ -19,7 +19,8 @@ use model::refusal;
 use permission::decision::permissions_under;
 use tables::items::is_list;
 
-// Editor search: some subject other than the custodian that may edit the list. Which of several is undecided.
+// Finds a subject, other than the custodian, that may edit the list without claiming a role. Its number is the result.
+// Which of several is undecided. Where there is none, the call is refused with 20.
 pub fn find_editor(image: &[u8], list: Item) -> Answer
     ensures { λ r. ⌜ EditorAnswer (now (image .entry)) (list .0) r ⌝ }
 {
@@ -40,7 +41,8 @@ pub fn find_editor(image: &[u8], list: Item) -> Answer
     Answer::done(editor)
 }
 
-// The number of a subject other than the custodian that may edit the list; 0, the custodian's, where there is none. Which of several is undecided.
+// The number of a subject, other than the custodian, that may edit the list; or 0, the custodian's number, where there is
+// none. Which of several is undecided.
 fn some_editor(image: &[u8], layout: Layout, list: Item) -> u32
     ensures { λ r. ⌜ Editor (tablesBy layout (now (image .entry))) (list .0) r ⌝ }
 {
@@ -56,7 +58,7 @@ fn some_editor(image: &[u8], layout: Layout, list: Item) -> u32
     0
 }
 
-// Without a role, a subject may edit a list.
+// Whether a subject may edit a list without claiming a role.
 fn may_edit(image: &[u8], layout: Layout, subject: Subject, list: Item) -> bool
     ensures { λ r. ⌜ r ≡ has editList (permissionSet (tablesBy layout (now (image .entry))) (subject .0) 0 (list .0)) ⌝ }
 {

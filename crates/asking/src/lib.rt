@@ -1,4 +1,5 @@
-// The calls that ask. Each opens the image, asks its own questions, and answers the first no: a call that is refused has done nothing but read.
+// The calls that ask. Each opens the image, then asks its own questions, and answers the number of the first question
+// answered no. A refused call has only read.
 pub mod editor;
 pub mod lines;
 mod list_rows;

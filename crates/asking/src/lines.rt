@@ -9,7 +9,7 @@ use model::Answer;
 use model::Item;
 use sizes::line_offset;
 
-// Lines of a list, the refusal number and the row count.
+// Counts the lines of a list. The result is how many rows it has.
 pub fn list_count(image: &[u8], list: Item) -> Answer
     ensures { λ r. ⌜ r ≡ ask (now (image .entry)) (listCount (list .0)) ⌝ }
 {
@@ -20,8 +20,10 @@ pub fn list_count(image: &[u8], list: Item) -> Answer
     }
 }
 
-// Lines of a list, the rows: the very part of the lent image that holds them. Refused, or without rows, it is the empty part at byte 0.
-// A reference's `ptr` is the block of memory that it points into and the byte in it: the part's block is the image's, and its byte the image's plus `listStart`.
+// The rows of a list, as the slice of the lent image that holds them. Where the call is refused or the list has no rows,
+// it is the empty slice at offset 0.
+// The `ptr` of a reference is a pair: the block of memory that it points into, and the byte in that block. The slice's
+// block is the image's, and its byte is the image's byte plus `listStart`.
 pub fn lines_of<'a>(image: &'a [u8], list: Item) -> &'a [u8]
     ensures { λ r. ⌜ now r ≡ listSlice (now (image .entry)) (list .0) ⌝ }
     ensures { λ r. ⌜ r .ptr .0 ≡ image .entry .ptr .0 ⌝ }
@@ -39,8 +41,8 @@ pub fn lines_of<'a>(image: &'a [u8], list: Item) -> &'a [u8]
     &image[start..end]
 }
 
-// Lines of a list, where the rows begin: the byte of the image at which that part starts, for a host that cannot be handed the part itself. Refused, or without
-// rows, it is 0.
+// The offset in the image at which the rows of a list start, for a host that cannot be handed the slice itself. Where the
+// call is refused or the list has no rows, it is 0.
 pub fn list_start(image: &[u8], list: Item) -> usize
     ensures { λ r. ⌜ r ≡ listStart (now (image .entry)) (list .0) ⌝ }
 {

@@ -16,7 +16,8 @@ use rows::read::line_at;
 use search::lines::line_insertion_index;
 use tables::items::is_list;
 
-// What asking for the rows of a list comes to: by which layout they lie, the first of them and the one before which they end; or the number of the refusal.
+// The rows of a list: the layout of the image, and two indices. The rows start at the first index and end before the
+// second. Or the refusal, where there is one.
 pub enum ListRows {
     Rows(Layout, u32, u32),
     Refused(u32),
@@ -40,14 +41,14 @@ pub fn shown_rows(image: &[u8], list: Item) -> ListRows
     ListRows::Rows(layout, first, end)
 }
 
-// The row that the list's rows begin at: the place of the lowest key.
+// The index at which the list's rows start: the insertion index of the list's lowest key.
 fn run_start(image: &[u8], layout: Layout, list: Item) -> u32
     ensures { λ r. ⌜ r ≡ insertionIndex lineKey (lowest (list .0)) (tablesBy layout (now (image .entry)) .lines) ⌝ }
 {
     line_insertion_index(image, layout, list, LineRow::ITSELF, Subject(0))
 }
 
-// The row before which they end, from the first on: rows are passed as long as they name the list.
+// The index before which the list's rows end. From index `first` on, rows are passed as long as they name the list.
 fn run_end(image: &[u8], layout: Layout, list: Item, first: u32) -> u32
     ensures { λ r. ⌜ r ≡ first + leading (list .0) (drop first (tablesBy layout (now (image .entry)) .lines)) ⌝ }
 {

@@ -1,4 +1,5 @@
-// The calls that ask for an image's check and for sets. Each checks the image, asks its own questions, and answers the first no.
+// The calls that check an image and that answer operation sets and permission sets. Each checks the image, then asks its
+// own questions, and answers the number of the first question answered no.
 ghost use mathlib.Core.Path.{_≡_};
 ghost use Rattle.model.specs.Calls.Ask.{checkImage, operationSetOf, permissionSetOf};
 ghost use Rattle.model.specs.Questions.{ask};
@@ -14,7 +15,7 @@ use permission::decision::permissions;
 use tables::items::item_used;
 use tables::subjects::subject_used;
 
-// Check an image.
+// Checks an image, as every other call does first. The result is 0.
 pub fn check(image: &[u8]) -> Answer
     ensures { λ r. ⌜ r ≡ ask (now (image .entry)) checkImage ⌝ }
 {
@@ -25,7 +26,8 @@ pub fn check(image: &[u8]) -> Answer
     }
 }
 
-// The operation set of a subject under a role.
+// The result is the operation set of a subject under a role. Role 0 is no role, and a role that the subject was not granted
+// adds nothing.
 pub fn operation_set(image: &[u8], subject: Subject, role: Role) -> Answer
     ensures { λ r. ⌜ r ≡ ask (now (image .entry)) (operationSetOf (subject .0) (role .0)) ⌝ }
 {
@@ -42,7 +44,8 @@ pub fn operation_set(image: &[u8], subject: Subject, role: Role) -> Answer
     Answer::done(operations(image, layout, subject, role))
 }
 
-// The permission set of a subject under a role on an item.
+// The result is the permission set of a subject under a role on an item. Role 0 is no role, and a role that the subject was
+// not granted adds nothing.
 pub fn permission_set(image: &[u8], subject: Subject, role: Role, item: Item) -> Answer
     ensures { λ r. ⌜ r ≡ ask (now (image .entry)) (permissionSetOf (subject .0) (role .0) (item .0)) ⌝ }
 {

@@ -13,7 +13,7 @@ use Rattle.search.specs.declared.RowIndex.the-variants.{Existing, New}
 abbrev pub givenAt : List GrantRow → ℕ → ℕ → Bool
 givenAt rows c n = eqb (getD rows n noGrant .grantor .0) c
 
--- c may set the grant that goes to a spot: a row that is there has to be its own
+-- c may set the grant at a row index: an existing row has to be its own
 abbrev pub maySet : List GrantRow → ℕ → RowIndex → Bool
 maySet rows c (Existing n) = givenAt rows c n
 maySet rows c (New n) = true

@@ -1,4 +1,4 @@
--- Set grant and remove grant: the row that was stored or taken out leaves the image that the call's definition gives.
+-- Set grant and remove grant: storing the row or taking it out gives the image of the call's definition.
 use mathlib.Core.List.{List, [], _∷_}
 use mathlib.Core.Path.{_≡_, refl, _∙_}
 use Prim.Native.Nat.{ℕ}
@@ -27,12 +27,14 @@ use Rattle.store.specs.Stores.{grantsCounter, storing, removing, storedAt, with
 use Rattle.store.specs.Stored.{grants-stored}
 use Rattle.store.specs.Calls.{store-index, remove-row, row-set, row-cut}
 
-module _ (img : List ℕ) (o : Opened) (is : o ≡ opened img) (lay : Layout) (case : o ≡ With lay) (a : Answer) (m : ℕ) (said : a ≡ answer 0 m) (new : List ℕ) where
+module _ (img : List ℕ) (o : Opened) (is : o ≡ opened img) (lay : Layout) (case : o ≡ With lay)
+    (a : Answer) (m : ℕ) (said : a ≡ answer 0 m) (new : List ℕ) where
   there : lay ≡ layoutOf img
   there = layout-with img o is lay case
 
   pub grant-set : (c s r d v : ℕ) (asked : Storing) (index : RowIndex) (x : GrantRow)
-      → asked ≡ storing (firstNo (questions (tablesBy lay img) (setGrant c s r d v))) (rowIndex grantKey (s ∷ r ∷ []) (tablesBy lay img .grants))
+      → asked ≡ storing (firstNo (questions (tablesBy lay img) (setGrant c s r d v)))
+      (rowIndex grantKey (s ∷ r ∷ []) (tablesBy lay img .grants))
       → asked ≡ At index
       → x ≡ grantRow s r c d v
       → new ≡ storedAt (grantFormat (widthOf lay)) grantsCounter (lay .grants) index x img
@@ -47,11 +49,14 @@ module _ (img : List ℕ) (o : Opened) (is : o ≡ opened img) (lay : Layout) (c
       (setGrant c s r d v)
       a answered m said bytes new grantKey noGrant (grantRow s r c d v) index refl
       (λ passed. passed .1 .1 .1 .1 .1 .1 .0)
-      (rw there at (store-index (firstNo (questions (tablesBy lay img) (setGrant c s r d v))) (rowIndex grantKey (s ∷ r ∷ []) (tablesBy lay img .grants)) asked so index at))
+      (rw there at
+      (store-index (firstNo (questions (tablesBy lay img) (setGrant c s r d v)))
+      (rowIndex grantKey (s ∷ r ∷ []) (tablesBy lay img .grants)) asked so index at))
       (e ∙ rw (row, there) refl)
 
   pub grant-cut : (c s r : ℕ) (asked : Removing) (n : ℕ)
-      → asked ≡ removing (firstNo (questions (tablesBy lay img) (removeGrant c s r))) (insertionIndex grantKey (s ∷ r ∷ []) (tablesBy lay img .grants))
+      → asked ≡ removing (firstNo (questions (tablesBy lay img) (removeGrant c s r)))
+      (insertionIndex grantKey (s ∷ r ∷ []) (tablesBy lay img .grants))
       → asked ≡ Row n
       → new ≡ withoutRow (grantFormat (widthOf lay)) grantsCounter (lay .grants) n img
       → ((i : ℕ) → Fits w8 (getD img i 0))
@@ -66,5 +71,7 @@ module _ (img : List ℕ) (o : Opened) (is : o ≡ opened img) (lay : Layout) (c
       a answered m said bytes new grantKey noGrant (s ∷ r ∷ []) n refl
       (λ passed. passed .1 .1 .1 .0)
       (λ accepted. tables-well-formed img accepted .grants-capacity)
-      (rw there at (remove-row (firstNo (questions (tablesBy lay img) (removeGrant c s r))) (insertionIndex grantKey (s ∷ r ∷ []) (tablesBy lay img .grants)) asked so n at))
+      (rw there at
+      (remove-row (firstNo (questions (tablesBy lay img) (removeGrant c s r)))
+      (insertionIndex grantKey (s ∷ r ∷ []) (tablesBy lay img .grants)) asked so n at))
       (e ∙ rw there refl)

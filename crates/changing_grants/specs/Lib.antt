@@ -1,4 +1,5 @@
--- Who gave the grant that a search found; then laws in the form in which the code asks and comes to its returns. The definitions are those of `model` and `store`.
+-- First who gave the grant that a search found; then laws about the questions and the returns, in the form that the proofs
+-- of the code use. The other definitions are those of `model` and `store`.
 pub mod GivenAt
 pub mod Questions
 pub mod Grants

@@ -21,7 +21,8 @@ use Rattle.search.specs.RowIndices.{rowIndex}
 use Rattle.search.specs.RowIndexLaws.{existing-index}
 use Rattle.changing_grants.specs.GivenAt.{givenAt, maySet}
 
--- What set grant asks of the numbers that it is given, and the rest. n is what the first four said.
+-- The first four questions of set grant, about the numbers that it is handed, and the rest. n is the refusal of the first
+-- four, or 0.
 module _ (a b c d : Bool) (qs : List Question) (n : ℕ) (said : n ≡ firstNo (10 asks a ∷ 11 asks b ∷ 11 asks c ∷ 14 asks d ∷ [])) where
   pub named-no : (n ≡ 0 → ⊥) → n ≡ firstNo (10 asks a ∷ 11 asks b ∷ 11 asks c ∷ 14 asks d ∷ qs)
   named-no h = first-left (10 asks a ∷ 11 asks b ∷ 11 asks c ∷ 14 asks d ∷ []) qs n tt said h
@@ -40,7 +41,7 @@ a-role r h = rw (ne-eqb r 0 h)
 pub grantor-read : (rows : List GrantRow) (n c : ℕ) (x : GrantRow) → x ≡ getD rows n noGrant → eqb (x .grantor .0) c ≡ givenAt rows c n
 grantor-read rows n c x read = rw read
 
--- whether it may be set, by where it goes
+-- whether the grant may be set, for an existing row and for a new one
 module _ (rows : List GrantRow) (c : ℕ) (index : RowIndex) (n : ℕ) where
   pub set-existing : (t : Bool) → index ≡ Existing n → t ≡ givenAt rows c n → t ≡ maySet rows c index
   set-existing t case e = e ∙ rw case
@@ -48,24 +49,28 @@ module _ (rows : List GrantRow) (c : ℕ) (index : RowIndex) (n : ℕ) where
   pub set-new : index ≡ New n → true ≡ maySet rows c index
   set-new case = rw case
 
--- the grantor of the row at the key's place is that of the row that the search finds
+-- the grantor of the row at the key's insertion index is the grantor of the row that `find` finds
 module _ (rows : List GrantRow) (k : List ℕ) (c : ℕ) where
   given-found : (g : GrantRow) → find grantKey k rows ≡ some g → givenAt rows c (insertionIndex grantKey k rows) ≡ givenBy c (some g)
   given-found g e = ap (λ (x : GrantRow). eqb (x .grantor .0) c) (found-at grantKey k rows g noGrant e)
 
-  -- What callees say of the spot, as t, they say of the row that the search finds.
+  -- t is what a called function answers about the row index. The same holds of the row that `find` finds.
   module _ (index : RowIndex) (found : index ≡ rowIndex grantKey k rows) (t : Bool) where
     pub set-found : t ≡ maySet rows c index → t ≡ (not (isThere (find grantKey k rows)) || givenBy c (find grantKey k rows))
     set-found e = e ∙ ap (maySet rows c) found ∙ go (find grantKey k rows) refl
       where
         go : (o : Option GrantRow) → find grantKey k rows ≡ o
-            → maySet rows c (cond (isThere o) (Existing (insertionIndex grantKey k rows)) (New (insertionIndex grantKey k rows))) ≡ (not (isThere o) || givenBy c o)
+            → maySet rows c (cond (isThere o) (Existing (insertionIndex grantKey k rows)) (New (insertionIndex grantKey k rows)))
+            ≡ (not (isThere o) || givenBy c o)
         go none f = refl
         go (some g) f = given-found g f
 
     pub remove-found : (n : ℕ) → index ≡ Existing n → isThere (find grantKey k rows) ≡ true → t ≡ (givenAt rows c n || eqb c custodian)
         → t ≡ (givenBy c (find grantKey k rows) || eqb c custodian)
-    remove-found n case there e = e ∙ ap (λ (i : ℕ). givenAt rows c i || eqb c custodian) (existing-index grantKey k rows index n found case) ∙ go (find grantKey k rows) refl there
+    remove-found n case there e =
+        e
+        ∙ ap (λ (i : ℕ). givenAt rows c i || eqb c custodian) (existing-index grantKey k rows index n found case)
+        ∙ go (find grantKey k rows) refl there
       where
         go : (o : Option GrantRow) → find grantKey k rows ≡ o → isThere o ≡ true
             → (givenAt rows c (insertionIndex grantKey k rows) || eqb c custodian) ≡ (givenBy c o || eqb c custodian)

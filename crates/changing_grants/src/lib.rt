@@ -1,4 +1,4 @@
-// The calls that change grants: set grant and remove grant. The questions say where the grant goes, and the change writes there.
+// The calls that change grants: set grant and remove grant. The questions find the row index, and the change writes there.
 ghost use mathlib.Core.Path.{_≡_};
 ghost use Rattle.model.specs.Calls.Change.{setGrant, removeGrant};
 ghost use Rattle.model.specs.Questions.{act};
@@ -18,7 +18,8 @@ use store::take_grant;
 
 mod questions;
 
-// Grant a role to a receiver, over a domain in the caller's tree. The caller's grant of the same role to the same receiver is overwritten.
+// Grants a role to a receiver, over a domain in the caller's tree. The caller's own grant of the same role to the same
+// receiver is overwritten; where another subject gave it, the call is refused. The result is 0.
 pub fn set_grant(
     image: &mut [u8],
     caller: Subject,
@@ -49,7 +50,7 @@ pub fn set_grant(
     }
 }
 
-// Take a role back from its receiver.
+// Takes a role back from its receiver. Only the subject that granted it and the custodian may. The result is 0.
 pub fn remove_grant(image: &mut [u8], caller: Subject, receiver: Subject, role: Role) -> Answer
     ensures { λ r. ⌜ r ≡ act (now (image .entry)) (removeGrant (caller .0) (receiver .0) (role .0)) .answer ⌝ }
     ensures { λ _. ⌜ now (image .exit) ≡ act (now (image .entry)) (removeGrant (caller .0) (receiver .0) (role .0)) .image ⌝ }

@@ -1,4 +1,5 @@
-// The questions of set grant and remove grant, after those of the image. Each function answers the first no, or where the grant goes.
+// The questions of set grant and remove grant, after those of the image. Each call's function answers the refusal, or which
+// row the change is about.
 ghost use mathlib.Core.Bool.{_||_};
 ghost use mathlib.Core.List.{[], _∷_};
 ghost use mathlib.Core.Path.{_≡_};
@@ -27,7 +28,7 @@ use tables::free::grant_free;
 use tables::subjects::in_tree;
 use tables::subjects::subject_used;
 
-// Set grant: where the grant goes.
+// Set grant: the refusal, or the row index at which the grant is stored.
 pub fn set_grant_storing(
     image: &[u8],
     layout: Layout,
@@ -60,7 +61,7 @@ pub fn set_grant_storing(
     Storing::At(index)
 }
 
-// What set grant asks of the numbers that it is given: 10, 11 of two subjects, and 14.
+// The questions of set grant about the numbers that it is handed: 10, 11 for the receiver and for the domain, and 14.
 fn named_refusal(
     image: &[u8],
     layout: Layout,
@@ -88,7 +89,7 @@ fn named_refusal(
     0
 }
 
-// Remove grant: which row it is.
+// Remove grant: the refusal, or the index of the row to remove.
 pub fn remove_grant_removing(
     image: &[u8],
     layout: Layout,
@@ -121,7 +122,7 @@ pub fn remove_grant_removing(
     Removing::Row(row)
 }
 
-// A row that is there is its grantor's to overwrite.
+// Only its grantor may overwrite an existing row. A new row needs no such right.
 fn may_set(image: &[u8], layout: Layout, index: RowIndex, caller: Subject) -> bool
     ensures { λ r. ⌜ r ≡ maySet (tablesBy layout (now (image .entry)) .grants) (caller .0) index ⌝ }
 {
@@ -131,7 +132,7 @@ fn may_set(image: &[u8], layout: Layout, index: RowIndex, caller: Subject) -> bo
     }
 }
 
-// Only a new row needs a free one: a row that is there is overwritten.
+// Only a new row needs a free row: an existing one is overwritten.
 fn has_capacity(layout: Layout, index: RowIndex) -> bool
     ensures { λ r. ⌜ r ≡ (isExisting index || ltb (layout .grants .used) (capacitiesBy layout .grants)) ⌝ }
 {
@@ -141,7 +142,7 @@ fn has_capacity(layout: Layout, index: RowIndex) -> bool
     grant_free(layout)
 }
 
-// The custodian may remove any row.
+// The grantor of row n may remove it, and the custodian may remove any row.
 fn may_remove(image: &[u8], layout: Layout, n: u32, caller: Subject) -> bool
     ensures { λ r. ⌜ r ≡ (givenAt (tablesBy layout (now (image .entry)) .grants) (caller .0) n || eqb (caller .0) custodian) ⌝ }
 {
@@ -151,7 +152,7 @@ fn may_remove(image: &[u8], layout: Layout, n: u32, caller: Subject) -> bool
     caller.0 == CUSTODIAN
 }
 
-// Row n is this grantor's.
+// Whether this grantor gave row n.
 fn given_by(image: &[u8], layout: Layout, n: u32, grantor: Subject) -> bool
     ensures { λ r. ⌜ r ≡ givenAt (tablesBy layout (now (image .entry)) .grants) (grantor .0) n ⌝ }
 {

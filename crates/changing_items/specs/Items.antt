@@ -1,4 +1,4 @@
--- Create item, bind and hand over: the row that was added or written anew leaves the image that the call's definition gives.
+-- Create item, bind and hand over: adding the row or replacing it gives the image of the call's definition.
 use mathlib.Core.List.{List}
 use mathlib.Core.Path.{_≡_, refl, sym, _∙_}
 use Prim.Native.Nat.{ℕ, _+_, _-_, _/_, _<_, _^_}
@@ -24,34 +24,41 @@ use Rattle.laws.specs.Rows.{rows-count}
 use Rattle.laws.specs.Opens.{layout-with}
 use Rattle.store.specs.Stores.{itemsCounter, withRow, overItem}
 use Rattle.store.specs.Stored.{items-stored}
-use Rattle.store.specs.Calls.{row-more, item-anew}
+use Rattle.store.specs.Calls.{row-more, item-replaced}
 
--- an item's row anew, made of the one that was read
-pub row-anew : (table : Table) (i : ℕ) (s new : List ℕ) (x y : ItemRow) → x ≡ y → new ≡ overItem table i x s → new ≡ overItem table i y s
-row-anew table i s new x y made-of e = e ∙ rw made-of
+-- an item's row is replaced by one that is made of the row that was read
+pub row-replaced : (table : Table) (i : ℕ) (s new : List ℕ) (x y : ItemRow) → x ≡ y → new ≡ overItem table i x s → new ≡ overItem table i y s
+row-replaced table i s new x y made-of e = e ∙ rw made-of
 
 module _ (x old : ItemRow) (read : x ≡ old) (y : ItemRow) where
-  pub list-anew : (l : ℕ) → y ≡ withList x l → y ≡ withList old l
-  list-anew l e = e ∙ rw read
+  pub list-replaced : (l : ℕ) → y ≡ withList x l → y ≡ withList old l
+  list-replaced l e = e ∙ rw read
 
-  pub owner-anew : (o : ℕ) → y ≡ withOwner x o → y ≡ withOwner old o
-  owner-anew o e = e ∙ rw read
+  pub owner-replaced : (o : ℕ) → y ≡ withOwner x o → y ≡ withOwner old o
+  owner-replaced o e = e ∙ rw read
 
--- The new item's number, which fits its type: there is a free row.
+-- The new item's number. It fits its type, because there is a free row.
 module _ (img : List ℕ) (lay : Layout) (c r l f : ℕ) where
   pub result-item : lay .items .used + 1 ≡ changeResult (tablesBy lay img) (createItem c r l f)
   unfolding changeResult tablesBy
   result-item = rw (rows-count itemFormat (lay .items) img, add-one)
 
-  pub number-fits : (k : ℕ) → k ≡ firstNo (questions (tablesBy lay img) (createItem c r l f)) → k ≡ 0 → lay .items .end < 2 ^ 32 → lay .items .used + 1 < 2 ^ 32
+  pub number-fits : (k : ℕ)
+      → k ≡ firstNo (questions (tablesBy lay img) (createItem c r l f))
+      → k ≡ 0
+      → lay .items .end < 2 ^ 32
+      → lay .items .used + 1 < 2 ^ 32
   unfolding questions tablesBy
   number-fits k asked done bound =
-      let passed : Passed (questions (tablesBy lay img) (createItem c r l f)) = passed-first (questions (tablesBy lay img) (createItem c r l f)) tt (sym asked ∙ done) in
-      let free : length (rowsIn itemFormat (lay .items) img) < (lay .items .end - lay .items .start) / size itemFormat = ltb→lt _ _ (passed .1 .1 .1 .1 .0) in
+      let passed : Passed (questions (tablesBy lay img) (createItem c r l f)) =
+      passed-first (questions (tablesBy lay img) (createItem c r l f)) tt (sym asked ∙ done) in
+      let free : length (rowsIn itemFormat (lay .items) img) < (lay .items .end - lay .items .start) / size itemFormat =
+      ltb→lt _ _ (passed .1 .1 .1 .1 .0) in
       let few : length (rowsIn itemFormat (lay .items) img) ≡ lay .items .used = rows-count itemFormat (lay .items) img in
       omega arith
 
-module _ (img : List ℕ) (o : Opened) (is : o ≡ opened img) (lay : Layout) (case : o ≡ With lay) (a : Answer) (m : ℕ) (said : a ≡ answer 0 m) (new : List ℕ) where
+module _ (img : List ℕ) (o : Opened) (is : o ≡ opened img) (lay : Layout) (case : o ≡ With lay)
+    (a : Answer) (m : ℕ) (said : a ≡ answer 0 m) (new : List ℕ) where
   there : lay ≡ layoutOf img
   there = layout-with img o is lay case
 
@@ -78,7 +85,9 @@ module _ (img : List ℕ) (o : Opened) (is : o ≡ opened img) (lay : Layout) (c
       → new ≡ act img (bind c i l) .image
   unfolding questions after
   item-bound c i l e bytes answered =
-      item-anew img (bind c i l) a answered m said bytes new i (withList (itemIn (tables img .items) i) l) refl (λ passed. passed .1 .0) (e ∙ rw there refl)
+      item-replaced img (bind c i l) a answered m said bytes new i (withList (itemIn (tables img .items) i) l) refl
+      (λ passed. passed .1 .0)
+      (e ∙ rw there refl)
 
   pub item-handed : (c i w : ℕ)
       → new ≡ overItem (lay .items) i (withOwner (itemIn (tablesBy lay img .items) i) w) img
@@ -87,4 +96,6 @@ module _ (img : List ℕ) (o : Opened) (is : o ≡ opened img) (lay : Layout) (c
       → new ≡ act img (handOver c i w) .image
   unfolding questions after
   item-handed c i w e bytes answered =
-      item-anew img (handOver c i w) a answered m said bytes new i (withOwner (itemIn (tables img .items) i) w) refl (λ passed. passed .1 .1 .0) (e ∙ rw there refl)
+      item-replaced img (handOver c i w) a answered m said bytes new i (withOwner (itemIn (tables img .items) i) w) refl
+      (λ passed. passed .1 .1 .0)
+      (e ∙ rw there refl)

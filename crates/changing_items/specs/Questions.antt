@@ -1,4 +1,5 @@
--- What the calls that change items ask, as the code asks it: the numbers that create item is given, and who may bind an item that was read.
+-- The questions of the calls that change items, as the code asks them: about the numbers that create item is handed, and
+-- who may bind an item that was read.
 use mathlib.Core.Bool.{Bool, true, false, not, or-true, or-false}
 use mathlib.Core.List.{List, [], _∷_}
 use mathlib.Core.Path.{_≡_}
@@ -10,7 +11,8 @@ use Rattle.model.specs.Image.{Tables, lockedFlag, itemIn}
 use Rattle.model.specs.Questions.{Question, _asks_, firstNo, mayBind}
 use Rattle.laws.specs.Answers.{first-left, first-right}
 
--- What create item asks of the numbers that it is given, and the rest. n is what the first three said.
+-- The first three questions of create item, about the numbers that it is handed, and the rest. n is the refusal of the first
+-- three, or 0.
 module _ (a b c : Bool) (qs : List Question) (n : ℕ) (said : n ≡ firstNo (10 asks a ∷ 13 asks b ∷ 14 asks c ∷ [])) where
   pub named-no : (n ≡ 0 → ⊥) → n ≡ firstNo (10 asks a ∷ 13 asks b ∷ 14 asks c ∷ qs)
   named-no h = first-left (10 asks a ∷ 13 asks b ∷ 14 asks c ∷ []) qs n tt said h

@@ -1,4 +1,4 @@
-// The calls that change items: create, bind and hand over.
+// The calls that change items: create item, bind and hand over.
 ghost use mathlib.Core.Path.{_≡_};
 ghost use Rattle.model.specs.Image.{tablesBy, itemIn, withList, withOwner};
 ghost use Rattle.model.specs.Calls.Change.{createItem, bind, handOver};
@@ -21,7 +21,7 @@ use store::replace_item;
 
 mod questions;
 
-// Create an item, which its caller owns, governed by a list or by none. Its number is the result.
+// Creates an item, which the caller owns. A list governs it, or none where `list` is 0. The result is the item's number.
 pub fn create_item(image: &mut [u8], caller: Subject, role: Role, list: Item, flags: u32) -> Answer
     ensures { λ r. ⌜ r ≡ act (now (image .entry)) (createItem (caller .0) (role .0) (list .0) flags) .answer ⌝ }
     ensures { λ _. ⌜ now (image .exit) ≡ act (now (image .entry)) (createItem (caller .0) (role .0) (list .0) flags) .image ⌝ }
@@ -42,7 +42,8 @@ pub fn create_item(image: &mut [u8], caller: Subject, role: Role, list: Item, fl
     Answer::done(table.used + 1)
 }
 
-// Bind an item to a list, or to none.
+// Binds an item to a list, or to none where `list` is 0. The custodian may, and the owner where the item is not locked.
+// The result is 0.
 pub fn bind(image: &mut [u8], caller: Subject, item: Item, list: Item) -> Answer
     ensures { λ r. ⌜ r ≡ act (now (image .entry)) (bind (caller .0) (item .0) (list .0)) .answer ⌝ }
     ensures { λ _. ⌜ now (image .exit) ≡ act (now (image .entry)) (bind (caller .0) (item .0) (list .0)) .image ⌝ }
@@ -62,7 +63,7 @@ pub fn bind(image: &mut [u8], caller: Subject, item: Item, list: Item) -> Answer
     Answer::done(0)
 }
 
-// Hand an item over to a new owner.
+// Hands an item over to a new owner. Only the custodian may. The result is 0.
 pub fn hand_over(image: &mut [u8], caller: Subject, item: Item, owner: Subject) -> Answer
     ensures { λ r. ⌜ r ≡ act (now (image .entry)) (handOver (caller .0) (item .0) (owner .0)) .answer ⌝ }
     ensures { λ _. ⌜ now (image .exit) ≡ act (now (image .entry)) (handOver (caller .0) (item .0) (owner .0)) .image ⌝ }

@@ -1,4 +1,5 @@
-// The questions of the calls that change items: create, bind and hand over, after those of the image. Each function answers the first no, or 0.
+// The questions of create item, bind and hand over, after those of the image. Each call's function answers the refusal, or
+// 0 where every question is answered yes.
 ghost use mathlib.Core.Path.{_≡_};
 ghost use lib.ListN.{take};
 ghost use Rattle.model.specs.Image.{tablesBy};
@@ -47,7 +48,7 @@ pub fn create_refusal(
     0
 }
 
-// What create item asks of the numbers that it is given: 10, 13 and 14.
+// The questions of create item about the numbers that it is handed: 10, 13 and 14.
 fn named_refusal(
     image: &[u8],
     layout: Layout,
@@ -89,7 +90,7 @@ pub fn bind_refusal(image: &[u8], layout: Layout, caller: Subject, item: Item, l
     0
 }
 
-// The custodian binds any item, its owner one that is not locked.
+// The custodian may bind any item, and the owner may bind an item that is not locked.
 fn may_bind(image: &[u8], layout: Layout, caller: Subject, item: Item) -> bool
     ensures { λ r. ⌜ r ≡ mayBind (tablesBy layout (now (image .entry))) (caller .0) (item .0) ⌝ }
 {

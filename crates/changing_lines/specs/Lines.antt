@@ -1,4 +1,4 @@
--- Set line and remove line: the row that was stored or taken out leaves the image that the call's definition gives.
+-- Set line and remove line: storing the row or taking it out gives the image of the call's definition.
 use mathlib.Core.List.{List, [], _∷_}
 use mathlib.Core.Path.{_≡_, refl, _∙_}
 use Prim.Native.Nat.{ℕ}
@@ -27,12 +27,14 @@ use Rattle.store.specs.Stores.{linesCounter, storing, removing, storedAt, witho
 use Rattle.store.specs.Stored.{lines-stored}
 use Rattle.store.specs.Calls.{store-index, remove-row, row-set, row-cut}
 
-module _ (img : List ℕ) (o : Opened) (is : o ≡ opened img) (lay : Layout) (case : o ≡ With lay) (a : Answer) (m : ℕ) (said : a ≡ answer 0 m) (new : List ℕ) where
+module _ (img : List ℕ) (o : Opened) (is : o ≡ opened img) (lay : Layout) (case : o ≡ With lay)
+    (a : Answer) (m : ℕ) (said : a ≡ answer 0 m) (new : List ℕ) where
   there : lay ≡ layoutOf img
   there = layout-with img o is lay case
 
   pub line-set : (c r l k s v : ℕ) (asked : Storing) (index : RowIndex) (x : LineRow)
-      → asked ≡ storing (firstNo (questions (tablesBy lay img) (setLine c r l k s v))) (rowIndex lineKey (l ∷ k ∷ s ∷ []) (tablesBy lay img .lines))
+      → asked ≡ storing (firstNo (questions (tablesBy lay img) (setLine c r l k s v)))
+      (rowIndex lineKey (l ∷ k ∷ s ∷ []) (tablesBy lay img .lines))
       → asked ≡ At index
       → x ≡ lineRow l k s v
       → new ≡ storedAt (lineFormat (widthOf lay)) linesCounter (lay .lines) index x img
@@ -47,11 +49,14 @@ module _ (img : List ℕ) (o : Opened) (is : o ≡ opened img) (lay : Layout) (c
       (setLine c r l k s v)
       a answered m said bytes new lineKey noLine (lineRow l k s v) index refl
       (λ passed. passed .1 .1 .1 .1 .1 .0)
-      (rw there at (store-index (firstNo (questions (tablesBy lay img) (setLine c r l k s v))) (rowIndex lineKey (l ∷ k ∷ s ∷ []) (tablesBy lay img .lines)) asked so index at))
+      (rw there at
+      (store-index (firstNo (questions (tablesBy lay img) (setLine c r l k s v)))
+      (rowIndex lineKey (l ∷ k ∷ s ∷ []) (tablesBy lay img .lines)) asked so index at))
       (e ∙ rw (row, there) refl)
 
   pub line-cut : (c r l k s : ℕ) (asked : Removing) (n : ℕ)
-      → asked ≡ removing (firstNo (questions (tablesBy lay img) (removeLine c r l k s))) (insertionIndex lineKey (l ∷ k ∷ s ∷ []) (tablesBy lay img .lines))
+      → asked ≡ removing (firstNo (questions (tablesBy lay img) (removeLine c r l k s)))
+      (insertionIndex lineKey (l ∷ k ∷ s ∷ []) (tablesBy lay img .lines))
       → asked ≡ Row n
       → new ≡ withoutRow (lineFormat (widthOf lay)) linesCounter (lay .lines) n img
       → ((i : ℕ) → Fits w8 (getD img i 0))
@@ -66,5 +71,7 @@ module _ (img : List ℕ) (o : Opened) (is : o ≡ opened img) (lay : Layout) (c
       a answered m said bytes new lineKey noLine (l ∷ k ∷ s ∷ []) n refl
       (λ passed. passed .1 .1 .1 .1 .1 .0)
       (λ accepted. tables-well-formed img accepted .lines-capacity)
-      (rw there at (remove-row (firstNo (questions (tablesBy lay img) (removeLine c r l k s))) (insertionIndex lineKey (l ∷ k ∷ s ∷ []) (tablesBy lay img .lines)) asked so n at))
+      (rw there at
+      (remove-row (firstNo (questions (tablesBy lay img) (removeLine c r l k s)))
+      (insertionIndex lineKey (l ∷ k ∷ s ∷ []) (tablesBy lay img .lines)) asked so n at))
       (e ∙ rw there refl)

@@ -1,4 +1,4 @@
-// The calls that change lines: set line and remove line. The questions say where the line goes, and the change writes there.
+// The calls that change lines: set line and remove line. The questions find the row index, and the change writes there.
 ghost use mathlib.Core.Path.{_≡_};
 ghost use Rattle.model.specs.Calls.Change.{setLine, removeLine};
 ghost use Rattle.model.specs.Questions.{act};
@@ -19,7 +19,7 @@ use store::take_line;
 
 mod questions;
 
-// Set a line of a list. The list's line of the same kind for the same subject is overwritten.
+// Sets a line of a list. The list's line of the same kind for the same subject is overwritten. The result is 0.
 pub fn set_line(
     image: &mut [u8],
     caller: Subject,
@@ -51,7 +51,7 @@ pub fn set_line(
     }
 }
 
-// Remove a line of a list.
+// Removes the line of a list that has this kind and this subject. The result is 0.
 pub fn remove_line(
     image: &mut [u8],
     caller: Subject,

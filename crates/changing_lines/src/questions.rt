@@ -1,5 +1,5 @@
-// The questions of set line and remove line, after those of the image. Each function answers the first no, or where the line goes: the search that the last
-// question makes is the one that the change needs.
+// The questions of set line and remove line, after those of the image. Each call's function answers the refusal, or which
+// row the change is about. The search that the last question makes is the one that the change needs.
 ghost use mathlib.Core.Bool.{_||_};
 ghost use mathlib.Core.List.{[], _∷_};
 ghost use mathlib.Core.Path.{_≡_};
@@ -31,7 +31,7 @@ use tables::free::line_free;
 use tables::items::is_list;
 use tables::subjects::subject_used;
 
-// Set line: where the line goes.
+// Set line: the refusal, or the row index at which the line is stored.
 pub fn set_line_storing(
     image: &[u8],
     layout: Layout,
@@ -65,7 +65,7 @@ pub fn set_line_storing(
     Storing::At(index)
 }
 
-// Remove line: which row it is.
+// Remove line: the refusal, or the index of the row to remove.
 pub fn remove_line_removing(
     image: &[u8],
     layout: Layout,
@@ -98,7 +98,8 @@ pub fn remove_line_removing(
     }
 }
 
-// What both calls ask of the numbers that they are given: 10, 11, 13 and 14. They are the first four questions of either, and none is about the role.
+// The questions of both calls about the numbers that they are handed: 10, 11, 13 and 14. They are the first four questions
+// of each call, and none is about the role.
 fn named_refusal(
     image: &[u8],
     layout: Layout,
@@ -125,7 +126,7 @@ fn named_refusal(
     0
 }
 
-// Only a new row needs a free one: a row that is there is overwritten.
+// Only a new row needs a free row: an existing one is overwritten.
 fn has_capacity(layout: Layout, index: RowIndex) -> bool
     ensures { λ r. ⌜ r ≡ (isExisting index || ltb (layout .lines .used) (capacitiesBy layout .lines)) ⌝ }
 {

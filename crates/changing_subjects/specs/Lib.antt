@@ -1,3 +1,4 @@
--- Laws in the form in which the code asks and comes to its returns. The definitions are those of `model` and `store`.
+-- Laws about the questions and the returns, in the form that the proofs of the code use. The definitions are those of
+-- `model` and `store`.
 pub mod Questions
 pub mod Subjects

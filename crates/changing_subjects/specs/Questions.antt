@@ -1,4 +1,5 @@
--- What define subject asks, as the code asks it: the numbers, then the caller's right and its reach, under the grant that was found for its claimed role.
+-- The questions of define subject, as the code asks them: first about the numbers, then about the caller's right and its
+-- reach, under the grant that was found for its claimed role.
 use mathlib.Core.Bool.{Bool, true, false}
 use mathlib.Core.List.{List, [], _∷_}
 use mathlib.Core.Option.{Option}
@@ -15,7 +16,7 @@ use Rattle.model.specs.Questions.{Question, _asks_, firstNo, inReachUnder, inRe
 use Rattle.laws.specs.Sets.{has-same}
 use Rattle.laws.specs.Answers.{first-left, first-right}
 
--- What is asked of the numbers that the call is given, and the rest. n is what the first two said.
+-- The first two questions, about the numbers that the call is handed, and the rest. n is the refusal of the first two, or 0.
 module _ (a b : Bool) (qs : List Question) (n : ℕ) (said : n ≡ firstNo (10 asks a ∷ 11 asks b ∷ [])) where
   pub named-no : (n ≡ 0 → ⊥) → n ≡ firstNo (10 asks a ∷ 11 asks b ∷ qs)
   named-no h = first-left (10 asks a ∷ 11 asks b ∷ []) qs n tt said h
@@ -37,9 +38,10 @@ module _ (t : Tables) (c p : ℕ) (x : SoughtGrant) (b : Bool) (own : b ≡ inTr
     pub reach-none : x ≡ NoGrant → false ≡ inReachUnder t c (foundGrant x) p
     reach-none said = rw (said, ← own, outside)
 
--- under the grant of the claimed role
+-- what holds under the grant that was found holds under the claimed role
 module _ (t : Tables) (c role : ℕ) (g : Option GrantRow) (found : g ≡ grantOf t c role) (r : Bool) where
-  pub right-claimed : (n s : ℕ) → n ≡ neededPosition defineCall → s ≡ operationUnder t c g → r ≡ has n s → r ≡ has (neededPosition defineCall) (operationSet t c role)
+  pub right-claimed : (n s : ℕ) → n ≡ neededPosition defineCall → s ≡ operationUnder t c g → r ≡ has n s
+      → r ≡ has (neededPosition defineCall) (operationSet t c role)
   right-claimed n s position set e = rw (← found) (has-same n (neededPosition defineCall) s (operationUnder t c g) r position set e)
 
   pub reach-claimed : (p : ℕ) → r ≡ inReachUnder t c g p → r ≡ inReach t c role p

@@ -1,4 +1,4 @@
--- Define subject: the row that was added leaves the image that the call's definition gives.
+-- Define subject: adding the row gives the image of the call's definition.
 use mathlib.Core.List.{List}
 use mathlib.Core.Path.{_≡_, refl, sym, _∙_}
 use Prim.Native.Nat.{ℕ}
@@ -23,7 +23,7 @@ use Rattle.store.specs.Stores.{subjectsCounter, withRow}
 use Rattle.store.specs.Stored.{subjects-stored}
 use Rattle.store.specs.Calls.{row-more}
 
--- the privileges that are stored, by who calls
+-- the privileges that are stored, for the custodian and for another caller
 module _ (t : Tables) (c v : ℕ) where
   pub new-privileges-given : c ≡ 0 → v ≡ newPrivileges t c v
   new-privileges-given e = rw (eq-eqb c 0 e)
@@ -31,7 +31,7 @@ module _ (t : Tables) (c v : ℕ) where
   pub new-privileges-cut : (own r : ℕ) → (c ≡ 0 → ⊥) → own ≡ privilegesIn (t .subjects) c → r ≡ v ∩ own → r ≡ newPrivileges t c v
   new-privileges-cut own r h is e = rw (e, is, ne-eqb c 0 h)
 
--- the row that was made, told by callees
+-- the row that is added, made of what the called functions answer
 pub defined-row : (t : Tables) (table : Table) (img new : List ℕ) (w c p v held : ℕ) (x : SubjectRow)
     → held ≡ newPrivileges t c v
     → x ≡ subjectRow p held c
@@ -46,7 +46,8 @@ module _ (img : List ℕ) (o : Opened) (is : o ≡ opened img) (lay : Layout) (c
 
   pub defined : (a : Answer) (new : List ℕ) (m : ℕ)
       → a ≡ answer 0 m
-      → new ≡ withRow (subjectFormat (widthOf lay)) subjectsCounter (lay .subjects) (lay .subjects .used) (subjectRow p (newPrivileges (tablesBy lay img) c v) c) img
+      → new ≡ withRow (subjectFormat (widthOf lay)) subjectsCounter (lay .subjects) (lay .subjects .used)
+      (subjectRow p (newPrivileges (tablesBy lay img) c v) c) img
       → ((i : ℕ) → Fits w8 (getD img i 0))
       → a ≡ act img (defineSubject c r p v) .answer
       → new ≡ act img (defineSubject c r p v) .image

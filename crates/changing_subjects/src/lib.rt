@@ -21,7 +21,8 @@ use tables::subjects::privileges_of;
 
 mod questions;
 
-// Define a subject below a parent. Its number is the result.
+// Defines a subject below a parent. The result is its number. From the custodian it gets all privileges that the call
+// names, from another caller only those that the caller's own row has. A claimed role does not count here.
 pub fn define_subject(
     image: &mut [u8],
     caller: Subject,
@@ -48,7 +49,7 @@ pub fn define_subject(
     Answer::done(table.used)
 }
 
-// The new subject, as the last row of its table.
+// Stores the new subject as the last row of its table.
 fn add_defined(
     image: &mut [u8],
     layout: Layout,
@@ -65,7 +66,8 @@ fn add_defined(
     add_subject(image, layout, SubjectRow::new(parent, held, caller));
 }
 
-// As given for the custodian; otherwise what the caller's own row also has. A claimed role lends nothing here.
+// The privileges that the new subject gets: from the custodian all that the call names, from another caller only those in
+// the caller's own row. A claimed role lends nothing here.
 fn new_privileges(
     image: &[u8],
     layout: Layout,

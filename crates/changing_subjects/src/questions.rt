@@ -20,7 +20,7 @@ use tables::free::subject_free;
 use tables::subjects::in_tree;
 use tables::subjects::subject_used;
 
-// The first no, or 0.
+// The refusal, or 0 where every question is answered yes.
 pub fn define_refusal(
     image: &[u8],
     layout: Layout,
@@ -52,7 +52,7 @@ pub fn define_refusal(
     0
 }
 
-// What is asked of the numbers that the call is given: 10 and 11.
+// The questions about the numbers that the call is handed: 10 and 11.
 fn named_refusal(
     image: &[u8],
     layout: Layout,
@@ -73,7 +73,7 @@ fn named_refusal(
     0
 }
 
-// In the tree of the caller, or of the grantor of its claimed role.
+// Whether the parent is in the caller's tree, or in the tree of the grantor of the claimed role.
 fn in_reach(
     image: &[u8],
     layout: Layout,

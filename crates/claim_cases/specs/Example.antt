@@ -1,5 +1,5 @@
--- An example: in the sample workshop 3 is a stranger of item 2, and a call of its own is done and changes the image. What 4 may do with item 2 under its role is what it
--- was.
+-- An example. In the sample workshop subject 3 is a stranger of item 2. A call that it makes is done and changes the image.
+-- What subject 4 may do with item 2 under its role stays the same.
 use mathlib.Core.Bool.{not}
 use mathlib.Core.List.{List, [], _∷_}
 use mathlib.Core.Logic.{_≢_}
@@ -25,13 +25,15 @@ use Rattle.strangers.specs.Walk.{walk}
 use Rattle.strangers.specs.Demand3.{demand-3}
 use Rattle.claim_cases.specs.Without.Clause.{nothing}
 use Rattle.claim_cases.specs.Whole.{covered-whole}
-use Rattle.claim_cases.specs.Tried.{Trial, startOf, stopOf, laterOf, proper, coveredBut, accepted-is, first-handed, second-handed, covered-is}
+use Rattle.claim_cases.specs.Tried.{Trial, startOf, stopOf, laterOf, proper, coveredBut}
+use Rattle.claim_cases.specs.Tried.{accepted-is, first-handed, second-handed, covered-is}
 
--- 3 grants 4 a role of its own
+-- 3 grants a role to 4
 abbrev pub its-call : Change
 its-call = setGrant 3 4 9 3 64
 
--- First 1 defines a subject. Then 3 makes its call, 2 asks something, and 3 tries to take item 2 off its list, which is refused.
+-- First 1 defines a subject. Then 3 makes its call, 2 asks for a set, and 3 tries to take item 2 off its list, which is
+-- refused.
 abbrev pub example : Trial
 example =
     record {

@@ -1,4 +1,5 @@
--- Who is an insider of a document, by computation: a test for each clause, which every insider by that clause passes. So whoever passes none is no insider.
+-- Who is an insider of a document, by computation. There is a test for each clause, and every insider by that clause passes
+-- it. So a subject that passes none of them is no insider.
 use mathlib.Core.Bool.{Bool, true, false, _&&_, _||_, not, cond}
 use mathlib.Core.List.{List, [], _∷_}
 use mathlib.Core.Logic.{_⊎_, inl, inr, _≢_}
@@ -18,7 +19,7 @@ use Rattle.strangers.specs.Sequences.Insider.{the-custodian, owns-document, own
 use Rattle.strangers.specs.Walk.{someOf, among, startsOf, followedLists, start-among, followed-walked}
 use Rattle.claim_cases.specs.Without.{Clause, same-clause, clausesOfWay, clausesOfEditor, clausesOf, InsiderBut}
 
--- a test that counts as passed where something else is the case
+-- a test that counts as passed if P holds
 abbrev pub orIf : {P : Type 0} → Dec P → Bool → Bool
 orIf (yes p) b = true
 orIf (no d) b = b
@@ -30,7 +31,7 @@ or-if-is (no d) b t n = t
 pub unequal : (a b : ℕ) → T (not (eqb a b)) → a ≢ b
 unequal a b p e = T-not (eqb a b) p (true-T (eqb a b) (eq-eqb a b e))
 
--- a number of a list that passes a test
+-- if a number of a list passes a test, some number of the list does
 some-of : (test : ℕ → Bool) (xs : List ℕ) (a : ℕ) → T (among a xs) → T (test a) → T (someOf test xs)
 some-of test [] a h p = h
 some-of test (x ∷ xs) a h p = go (or-cases (eqb a x) (among a xs) h) (some-of test xs a)
@@ -39,12 +40,12 @@ some-of test (x ∷ xs) a h p = go (or-cases (eqb a x) (among a xs) h) (some-of 
     go (inl e) ih = or-l (test x) (someOf test xs) (rw (eqb→eq a x e) at p)
     go (inr k) ih = or-r (test x) (someOf test xs) (ih k p)
 
--- the lists that control some items, and no further ones
+-- the lists that control some items, without the lists of these lists
 abbrev firstLists : Tables → List ℕ → List ℕ
 firstLists t [] = []
 firstLists t (d ∷ starts) = listOf t d ∷ firstLists t starts
 
--- each of these items has its list among those
+-- each of the items has its list among them
 first-among : (t : Tables) (starts : List ℕ) (d : ℕ) → T (among d starts) → T (among (listOf t d) (firstLists t starts))
 first-among t [] d h = h
 first-among t (x ∷ starts) d h = elim (or-cases (eqb d x) (among d starts) h) [
@@ -53,7 +54,8 @@ first-among t (x ∷ starts) d h = elim (or-cases (eqb d x) (among d starts) h) 
 ]
 
 module _ (left-out : Clause) (t : Tables) (document : ℕ) where
-  -- the followed lists: by the walk, or none where the document's list is left out, or that list alone where the way does not go on
+  -- The followed lists, as the walk meets them. There are none if the clause about the document's list is left out. There
+  -- is only that list if the clause about lists of lists is left out.
   abbrev onWay : Dec (left-out ≡ Clause.list-of-document) → Dec (left-out ≡ Clause.lists-of-lists) → List ℕ
   onWay (yes e) (yes f) = []
   onWay (yes e) (no f) = []
@@ -63,7 +65,7 @@ module _ (left-out : Clause) (t : Tables) (document : ℕ) where
   abbrev lists : List ℕ
   lists = onWay (same-clause left-out Clause.list-of-document) (same-clause left-out Clause.lists-of-lists)
 
-  -- The subject owns the document; it owns one of the lists; the lines allow it to edit one.
+  -- Three tests: the subject owns the document; it owns one of the lists; the lines allow it to edit one of the lists.
   abbrev ownsDocument : ℕ → Bool
   ownsDocument s = someOf (λ d. eqb s (ownerOf t d)) (startsOf t document)
 
@@ -73,7 +75,8 @@ module _ (left-out : Clause) (t : Tables) (document : ℕ) where
   abbrev editsSome : ℕ → Bool
   editsSome s = someOf (λ a. has editList (linesPart t s a)) lists
 
-  -- where editors without the operation are left out, an editor holds it
+  -- If the clause about editors without the operation is left out, only a subject whose own row has the operation counts
+  -- as an editor.
   abbrev countsAsEditor : Dec (left-out ≡ Clause.editor-without-operation) → ℕ → Bool
   countsAsEditor (yes e) s = has editList (privilegesIn (t .subjects) s)
   countsAsEditor (no d) s = true
@@ -81,7 +84,7 @@ module _ (left-out : Clause) (t : Tables) (document : ℕ) where
   abbrev editsList : ℕ → Bool
   editsList s = countsAsEditor (same-clause left-out Clause.editor-without-operation) s && editsSome s
 
-  -- It is no insider by any clause but the one left out.
+  -- The subject is no insider by any clause but the one left out.
   abbrev pub apart : ℕ → Bool
   apart s =
       orIf (same-clause left-out Clause.custodian-inside) (not (eqb s custodian))
@@ -89,7 +92,7 @@ module _ (left-out : Clause) (t : Tables) (document : ℕ) where
       && orIf (same-clause left-out Clause.list-owner-inside) (not (ownsList s))
       && orIf (same-clause left-out Clause.editor-inside) (not (editsList s))
 
-  -- Nor are the grantors of the roles that it holds.
+  -- The grantors of the roles that it holds are not insiders by these clauses either.
   abbrev pub rolesApart : ℕ → Bool
   rolesApart s = every (λ g. not (eqb (g .receiver .0) s) || apart (g .grantor .0)) (t .grants)
 
@@ -114,7 +117,8 @@ module _ (left-out : Clause) (t : Tables) (document : ℕ) where
       go {a} f counted (no d) (no e) = followed-walked t document a f
 
   editor-counts : (s : ℕ) → Counted (clausesOfEditor t s) → T (countsAsEditor (same-clause left-out Clause.editor-without-operation) s)
-  editor-counts s counted = go (has editList (privilegesIn (t .subjects) s)) refl counted (same-clause left-out Clause.editor-without-operation)
+  editor-counts s counted =
+      go (has editList (privilegesIn (t .subjects) s)) refl counted (same-clause left-out Clause.editor-without-operation)
     where
       go : (b : Bool)
           → has editList (privilegesIn (t .subjects) s) ≡ b
@@ -128,7 +132,7 @@ module _ (left-out : Clause) (t : Tables) (document : ℕ) where
   fails : (this : Clause) (test : Bool) → T (orIf (same-clause left-out this) (not test)) → left-out ≢ this → ¬ T test
   fails this test p d h = T-not test (or-if-is (same-clause left-out this) (not test) p d) h
 
-  -- an insider fails the test of its clause, where that one is asked
+  -- a subject that passes `apart` can be an insider only by the clause left out
   inside-fails : {s : ℕ} → T (apart s) → (i : Insider t document s) → ¬ Counted (clausesOf i)
   inside-fails p the-custodian c = fails Clause.custodian-inside (eqb 0 custodian) (search (and-l, and-r)) (c .0) tt
   inside-fails p (owns-document {d} s) c =
@@ -150,8 +154,11 @@ module _ (left-out : Clause) (t : Tables) (document : ℕ) where
   pub apart-is : (s : ℕ) → T (apart s) → ¬ InsiderBut left-out t document s
   apart-is s p i = inside-fails p (i .insider) (i .counts)
 
-  pub roles-apart-is : (s : ℕ) → T (rolesApart s) → All (λ g. g .receiver .0 ≡ s → ¬ InsiderBut left-out t document (g .grantor .0)) (t .grants)
-  roles-apart-is s p = All-map grant (t .grants) (every-All (λ g. not (eqb (g .receiver .0) s) || apart (g .grantor .0)) (t .grants) p)
+  pub roles-apart-is : (s : ℕ)
+      → T (rolesApart s)
+      → All (λ g. g .receiver .0 ≡ s → ¬ InsiderBut left-out t document (g .grantor .0)) (t .grants)
+  roles-apart-is s p =
+      All-map grant (t .grants) (every-All (λ g. not (eqb (g .receiver .0) s) || apart (g .grantor .0)) (t .grants) p)
     where
       grant : (g : GrantRow)
           → T (not (eqb (g .receiver .0) s) || apart (g .grantor .0))

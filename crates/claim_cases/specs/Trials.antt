@@ -1,4 +1,4 @@
--- For each clause of the claim, tables and calls by which the claim without it is false.
+-- For each clause of the claim, tables and calls for which the claim without that clause is false.
 use mathlib.Core.List.{List, [], _∷_}
 use mathlib.Core.Logic.{_≢_}
 use mathlib.Core.Path.{refl}
@@ -12,16 +12,27 @@ use Rattle.strangers.specs.Sequences.{Step, run, writing}
 use Rattle.strangers.specs.Sequences.Step.{changes}
 use Rattle.strangers.specs.Walk.{walk}
 use Rattle.claim_cases.specs.Without.{Clause, Without}
-use Rattle.claim_cases.specs.Without.Clause.{nothing, list-of-document, lists-of-lists, custodian-inside, document-owner-inside, list-owner-inside, editor-inside, editor-without-operation, no-role-of-insiders, caller-present, asker-present, document-present, role-granted, grantor-silent}
+use Rattle.claim_cases.specs.Without.Clause.{nothing, list-of-document, lists-of-lists, custodian-inside}
+use Rattle.claim_cases.specs.Without.Clause.{document-owner-inside, list-owner-inside, editor-inside, editor-without-operation}
+use Rattle.claim_cases.specs.Without.Clause.{no-role-of-insiders, caller-present, asker-present, document-present}
+use Rattle.claim_cases.specs.Without.Clause.{role-granted, grantor-silent}
 use Rattle.claim_cases.specs.Tried.{Trial, proper, coveredBut, changed, refutes}
 
--- Item 3 is the document; list 1 controls it and itself. 1 may edit list 1 by its own line. 2 owns list 1, whose owner line gives nothing; list 2 would let an owner edit. 3 holds
--- a role that 1 granted. 4, below 1 like 2, is denied by its own line what the group of 1 may. These four have the privileges 0 to 6. The lines let 5 edit list 1 too, but it
--- has no privileges of its own.
+-- Item 3 is the document. List 1 controls it, and controls itself. Subject 1 may edit list 1 by its own line. Subject 2
+-- owns list 1, but the owner line in list 1 gives nothing; the one in list 2 would let an owner edit. Subject 3 holds a
+-- role that 1 granted. Subject 4 is below 1, as 2 is; its own line denies it what the line for the group of 1 gives. These
+-- four have the privileges 0 to 6. The lines also let subject 5 edit list 1, but it has no privileges of its own.
 unfoldable rivals : Tables
 rivals =
     record {
-      subjects = subjectRow 0 (everything 4) 0 ∷ subjectRow 0 127 0 ∷ subjectRow 1 127 0 ∷ subjectRow 0 127 0 ∷ subjectRow 1 127 0 ∷ subjectRow 0 0 0 ∷ [];
+      subjects =
+          subjectRow 0 (everything 4) 0
+          ∷ subjectRow 0 127 0
+          ∷ subjectRow 1 127 0
+          ∷ subjectRow 0 127 0
+          ∷ subjectRow 1 127 0
+          ∷ subjectRow 0 0 0
+          ∷ [];
       grants = grantRow 3 7 1 1 127 ∷ [];
       lines =
           lineRow 1 itselfKind 1 64
@@ -35,7 +46,8 @@ rivals =
       capacities = record { subjects = 7; grants = 2; lines = 7; items = 3 };
     }
 
--- A way of three lists: item 4 is the document, list 1 controls it, list 2 controls list 1, list 3 controls list 2. 1 may edit list 2.
+-- Three followed lists: item 4 is the document, list 1 controls it, list 2 controls list 1, list 3 controls list 2. Subject
+-- 1 may edit list 2.
 unfoldable threeLists : Tables
 threeLists =
     record {
@@ -46,7 +58,7 @@ threeLists =
       capacities = record { subjects = 2; grants = 0; lines = 3; items = 4 };
     }
 
--- tables, the added calls; asker, role and document; the set before and after
+-- a trial: tables and the added calls; asker, role and document; the set before and after the calls
 abbrev tried : Tables → List Step → ℕ → ℕ → ℕ → ℕ → ℕ → Trial
 tried start calls s r i before later =
     record { start = start; first = []; second = calls; asker = s; role = r; document = i; set-then = before; set-later = later }
@@ -72,15 +84,15 @@ each-is-needed list-owner-inside d = refutes list-owner-inside (tried rivals (ch
 -- An editor sets a line, and the holder of a role that the editor granted does.
 each-is-needed editor-inside d = refutes editor-inside (tried rivals (opens 1 0 ∷ []) 3 0 3 0 1) tt tt tt
 each-is-needed no-role-of-insiders d = refutes no-role-of-insiders (tried rivals (opens 3 7 ∷ []) 3 0 3 0 1) tt tt tt
--- 4 lends 5 the operation that it lacks, and 5 sets a line.
+-- 4 grants 5 the operation that 5 lacks, and 5 sets a line.
 each-is-needed editor-without-operation d =
     refutes editor-without-operation (tried rivals (changes (setGrant 4 5 9 4 64) ∷ opens 5 9 ∷ []) 3 0 3 0 1) tt tt tt
--- 4 defines a subject below itself, which the group's line lets edit; that subject sets a line.
+-- 4 defines a subject below itself. The group's line allows that subject to edit, and it sets a line.
 each-is-needed caller-present d =
     refutes caller-present (tried rivals (changes (defineSubject 4 0 4 127) ∷ opens 6 0 ∷ []) 3 0 3 0 1) tt tt tt
 -- A subject and an item that are not there yet get a row.
 each-is-needed asker-present d = refutes asker-present (tried rivals (changes (defineSubject 4 0 4 127) ∷ []) 6 0 3 0 64) tt tt tt
 each-is-needed document-present d = refutes document-present (tried workshop (changes (createItem 2 0 1 0) ∷ []) 2 0 5 0 3) tt tt tt
--- A stranger grants the claimed role; its grantor takes it back.
+-- A stranger grants the role that the asker claims. And the grantor of a claimed role removes its grant.
 each-is-needed role-granted d = refutes role-granted (tried workshop (changes (setGrant 2 4 9 2 2) ∷ []) 4 9 3 1 3) tt tt tt
 each-is-needed grantor-silent d = refutes grantor-silent (tried workshop (changes (removeGrant 2 4 7) ∷ []) 4 7 3 3 1) tt tt tt

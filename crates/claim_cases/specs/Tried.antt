@@ -1,5 +1,5 @@
--- Tables, calls and a question, tried by computation: the calls change the set, and all is covered but for the clause left out. Such a trial refutes the claim
--- without that clause.
+-- Trials: tables, calls and a question, tried by computation. If the calls change the set, and all clauses hold but for the
+-- one left out, the trial refutes the claim without that clause.
 use mathlib.Core.Bool.{Bool, false, _&&_, _||_, not}
 use mathlib.Core.List.{List}
 use mathlib.Core.Logic.{inl, inr, _≢_}
@@ -19,7 +19,7 @@ use Rattle.claim_cases.specs.Without.{Clause, same-clause, StrangerBut, 
 use Rattle.claim_cases.specs.Without.ClaimBut.{no-role, granted, not-granted}
 use Rattle.claim_cases.specs.Insiders.{orIf, or-if-is, unequal, apart, rolesApart, apart-is, roles-apart-is}
 
--- A trial: tables, the two sequences, the question, and the set then and later.
+-- A trial: tables, the two sequences, the question, and the set at the stop and later.
 pub record Trial : Type 0 where
   pub start : Tables
   pub first : List Step
@@ -53,11 +53,11 @@ handed steps = every (λ c. small (numbersOf c) && small (setsOf c)) (writing st
 unfoldable pub proper : Trial → Bool
 proper x = every (λ b. ltb b 256) (startOf x) && eqb (check (startOf x)) 0 && handed (x .first) && handed (x .second)
 
--- the sets are as said, and differ
+-- the sets are as the trial says, and they differ
 unfoldable pub changed : Trial → Bool
 changed x = eqb (setIn x (stopOf x)) (x .set-then) && eqb (setIn x (laterOf x)) (x .set-later) && not (eqb (x .set-later) (x .set-then))
 
--- Tests for the records of `Without`, each passed where its clause is the one left out.
+-- Tests for the records of `Without`. The test of a clause counts as passed if that clause is the one left out.
 module _ (left-out : Clause) where
   abbrev strangerBut : Tables → ℕ → ℕ → Bool
   strangerBut t document s =
@@ -65,7 +65,7 @@ module _ (left-out : Clause) where
       && apart left-out t document s
       && orIf (same-clause left-out Clause.no-role-of-insiders) (rolesApart left-out t document s)
 
-  -- of the grant for the claimed role: its grantor makes no call
+  -- the claimed role has a grant, and its grantor makes no call
   abbrev silent : List Change → Option GrantRow → Bool
   silent added none = orIf (same-clause left-out Clause.role-granted) false
   silent added (some g) = orIf (same-clause left-out Clause.grantor-silent) (every (λ c. not (eqb (callerOf c) (g .grantor .0))) added)
@@ -93,7 +93,9 @@ module _ (left-out : Clause) where
             };
       }
 
-  claim-is : (t : Tables) (asker : ℕ) (added : List Change) (role : ℕ) → T (claimBut t asker added role) → ClaimBut left-out t asker added role
+  claim-is : (t : Tables) (asker : ℕ) (added : List Change) (role : ℕ)
+      → T (claimBut t asker added role)
+      → ClaimBut left-out t asker added role
   claim-is t asker added role p =
       elim (or-cases (eqb role 0) (silent added (grantOf t asker role)) p) [
         | inl e ↦ rw (eqb→eq role 0 e) no-role
@@ -106,7 +108,11 @@ module _ (left-out : Clause) where
 
       grant : (o : Option GrantRow) → grantOf t asker role ≡ o → T (silent added o) → ClaimBut left-out t asker added role
       grant none e h = not-granted e (left (same-clause left-out Clause.role-granted) h)
-      grant (some g) e h = granted g e (λ d. All-map (λ c. unequal (callerOf c) (g .grantor .0)) added (every-All (λ c. not (eqb (callerOf c) (g .grantor .0))) added (unless d)))
+      grant (some g) e h =
+          granted g e
+          (λ d.
+          All-map (λ c. unequal (callerOf c) (g .grantor .0)) added
+          (every-All (λ c. not (eqb (callerOf c) (g .grantor .0))) added (unless d)))
         where
           unless : left-out ≢ Clause.grantor-silent → T (every (λ c. not (eqb (callerOf c) (g .grantor .0))) added)
           unless = or-if-is (same-clause left-out Clause.grantor-silent) (every (λ c. not (eqb (callerOf c) (g .grantor .0))) added) h
@@ -116,8 +122,10 @@ module _ (left-out : Clause) where
   covered-is x p =
       let t : Tables = tables (stopOf x) in
       record {
-        asker-there = or-if-is (same-clause left-out Clause.asker-present) (subjectUsed (t .subjects) (x .asker)) (search (and-l, and-r));
-        document-there = or-if-is (same-clause left-out Clause.document-present) (itemUsed (t .items) (x .document)) (search (and-l, and-r));
+        asker-there =
+            or-if-is (same-clause left-out Clause.asker-present) (subjectUsed (t .subjects) (x .asker)) (search (and-l, and-r));
+        document-there =
+            or-if-is (same-clause left-out Clause.document-present) (itemUsed (t .items) (x .document)) (search (and-l, and-r));
         strangers-only =
             All-map (λ c. stranger-is t (x .document) (callerOf c)) (writing (x .second))
             (every-All (λ c. strangerBut t (x .document) (callerOf c)) (writing (x .second)) (search (and-l, and-r)));
@@ -132,7 +140,8 @@ handed-is steps p = All-map of-call (writing steps) (every-All (λ c. small (num
   where
     of-call : (c : Change) → T (small (numbersOf c) && small (setsOf c)) → Handed c
     of-call c h =
-        all-small (numbersOf c) (and-l (small (numbersOf c)) (small (setsOf c)) h) and all-small (setsOf c) (and-r (small (numbersOf c)) (small (setsOf c)) h)
+        all-small (numbersOf c) (and-l (small (numbersOf c)) (small (setsOf c)) h)
+        and all-small (setsOf c) (and-r (small (numbersOf c)) (small (setsOf c)) h)
 
 module _ (x : Trial) (p : T (proper x)) where
   pub accepted-is : Accepted (startOf x)

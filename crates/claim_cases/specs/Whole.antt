@@ -1,4 +1,4 @@
--- With nothing left out, the claim is demand 3: it covers the same, so it holds too.
+-- With nothing left out, the claim is demand 3: both cover the same cases. So the claim holds too.
 use mathlib.Core.Bool.{Bool, true, false, not, cond}
 use mathlib.Core.List.{List, [], _∷_}
 use mathlib.Core.Logic.{_≢_}
@@ -14,8 +14,12 @@ use Rattle.strangers.specs.Sequences.{Step, run, writing, Followed, Insider, St
 use Rattle.strangers.specs.Sequences.Followed.{its-list, list-of}
 use Rattle.strangers.specs.Sequences.Insider.{the-custodian, owns-document, owns-list, may-edit}
 use Rattle.strangers.specs.Demand3.{demand-3}
-use Rattle.claim_cases.specs.Without.{Clause, same-clause, clausesOfWay, clausesOfEditor, clausesOf, StrangerBut, ClaimBut, CoveredBut, Without}
-use Rattle.claim_cases.specs.Without.Clause.{nothing, list-of-document, lists-of-lists, custodian-inside, document-owner-inside, list-owner-inside, editor-inside, editor-without-operation, no-role-of-insiders, caller-present, asker-present, document-present, role-granted, grantor-silent}
+use Rattle.claim_cases.specs.Without.{Clause, same-clause, clausesOfWay, clausesOfEditor, clausesOf}
+use Rattle.claim_cases.specs.Without.{StrangerBut, ClaimBut, CoveredBut, Without}
+use Rattle.claim_cases.specs.Without.Clause.{nothing, list-of-document, lists-of-lists, custodian-inside}
+use Rattle.claim_cases.specs.Without.Clause.{document-owner-inside, list-owner-inside, editor-inside, editor-without-operation}
+use Rattle.claim_cases.specs.Without.Clause.{no-role-of-insiders, caller-present, asker-present, document-present}
+use Rattle.claim_cases.specs.Without.Clause.{role-granted, grantor-silent}
 use Rattle.claim_cases.specs.Insiders.{orIf}
 
 distinct : (j k : Clause) → T (not (orIf (same-clause j k) false)) → j ≢ k
@@ -40,8 +44,10 @@ counts : {t : Tables} {document s : ℕ} (i : Insider t document s) → All (λ 
 counts the-custodian = (distinct nothing custodian-inside tt, tt)
 counts (owns-document d) = (distinct nothing document-owner-inside tt, tt)
 counts (owns-list f) = (distinct nothing list-owner-inside tt, way-counts f)
-counts {t} {document} {s} (may-edit f allowed) =
-    (distinct nothing editor-inside tt, All-append (λ c. nothing ≢ c) (clausesOfEditor t s) (clausesOfWay f) (editor-counts t s) (way-counts f))
+counts {t} {document} {s} (may-edit f allowed) = (
+  distinct nothing editor-inside tt,
+  All-append (λ c. nothing ≢ c) (clausesOfEditor t s) (clausesOfWay f) (editor-counts t s) (way-counts f),
+)
 
 stranger-whole : (t : Tables) (document s : ℕ) → StrangerBut nothing t document s → Stranger t document s
 stranger-whole t document s x =
@@ -100,4 +106,5 @@ whole-covered stop second asker role document covered =
 
 pub nothing-left-out : Without nothing
 nothing-left-out start accepted first second handed-first handed-second asker role document covered =
-    demand-3 start accepted first second handed-first handed-second asker role document (covered-whole (run start first) second asker role document covered)
+    demand-3 start accepted first second handed-first handed-second asker role document
+    (covered-whole (run start first) second asker role document covered)

@@ -1,5 +1,5 @@
--- The claim of demand 3 with one of its clauses left out. The definitions are those of `strangers`, clause by clause in their order; what a clause asks is asked
--- unless that clause is the one left out.
+-- The claim of demand 3 with one of its clauses left out. The definitions are those of `strangers`, clause by clause in
+-- their order. Each asks what its clause asks, unless that clause is the one left out.
 use mathlib.Core.Bool.{cond}
 use mathlib.Core.List.{List, [], _∷_, _++_}
 use mathlib.Core.Logic.{_≢_}
@@ -36,13 +36,13 @@ pub data Clause : Type 0 where
   grantor-silent : Clause
   deriving Discrete as same-clause
 
--- the clauses by which a list is followed, and by which one is an insider
+-- the clauses by which a list is followed, and by which a subject is an insider
 
 abbrev pub clausesOfWay : {t : Tables} {document a : ℕ} → Followed t document a → List Clause
 clausesOfWay (its-list d some-list) = Clause.list-of-document ∷ []
 clausesOfWay (list-of a some-list) = Clause.lists-of-lists ∷ clausesOfWay a
 
--- who lacks the operation in its own row is an editor by the lines all the same
+-- a subject whose own row lacks the operation is an editor by the lines all the same
 abbrev pub clausesOfEditor : Tables → ℕ → List Clause
 clausesOfEditor t s = cond (has editList (privilegesIn (t .subjects) s)) [] (Clause.editor-without-operation ∷ [])
 
@@ -60,7 +60,8 @@ module _ (left-out : Clause) where
   pub record OutsiderBut (t : Tables) (document s : ℕ) : Type 0 where
     pub present : left-out ≢ Clause.caller-present → T (subjectUsed (t .subjects) s)
     pub outside : ¬ InsiderBut t document s
-    pub holds-none : left-out ≢ Clause.no-role-of-insiders → All (λ g. g .receiver .0 ≡ s → ¬ InsiderBut t document (g .grantor .0)) (t .grants)
+    pub holds-none : left-out ≢ Clause.no-role-of-insiders
+        → All (λ g. g .receiver .0 ≡ s → ¬ InsiderBut t document (g .grantor .0)) (t .grants)
 
   pub record StrangerBut (t : Tables) (document s : ℕ) : Type 0 where
     pub outsider : OutsiderBut t document s

@@ -1,1 +1,1 @@
-// That the claim about sequences is not empty, and that no clause of it can be left out; there is no code here.
+// The claim about sequences is not empty, and no clause of it can be left out. There is no code here.

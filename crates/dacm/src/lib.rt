@@ -1,5 +1,6 @@
-// The calls under C's conventions: the functions of the static library, which include/dacm.h declares. Each passes its numbers on to the call of the same
-// meaning and has that call's contract.
+// The calls under C's conventions: the functions of the static library, which include/dacm.h declares. Each hands its
+// arguments to the call of the same meaning and has that call's contract. An `Answer` is number 0 and the call's result, or
+// the refusal and result 0.
 ghost use mathlib.Core.Path.{_≡_};
 ghost use Rattle.model.specs.Calls.Ask.{checkImage, operationSetOf, permissionSetOf, listCount};
 ghost use Rattle.model.specs.Calls.Change.{defineSubject, setGrant, removeGrant, setLine, removeLine, createItem, bind, handOver};
@@ -10,7 +11,7 @@ use model::Privileges;
 use model::Role;
 use model::Subject;
 
-// Check an image.
+// Checks an image, as every other call does first. The result is 0.
 #[no_mangle]
 pub extern "C" fn dacm_check(image: &[u8]) -> Answer
     ensures { λ r. ⌜ r ≡ ask (now (image .entry)) checkImage ⌝ }
@@ -18,7 +19,8 @@ pub extern "C" fn dacm_check(image: &[u8]) -> Answer
     asking::sets::check(image)
 }
 
-// The operation set of a subject under a role.
+// The result is the operation set of a subject under a role. Role 0 is no role, and a role that the subject was not granted
+// adds nothing.
 #[no_mangle]
 pub extern "C" fn dacm_operation_set(image: &[u8], subject: Subject, role: Role) -> Answer
     ensures { λ r. ⌜ r ≡ ask (now (image .entry)) (operationSetOf (subject .0) (role .0)) ⌝ }
@@ -26,7 +28,8 @@ pub extern "C" fn dacm_operation_set(image: &[u8], subject: Subject, role: Role)
     asking::sets::operation_set(image, subject, role)
 }
 
-// The permission set of a subject under a role on an item.
+// The result is the permission set of a subject under a role on an item. Role 0 is no role, and a role that the subject was
+// not granted adds nothing.
 #[no_mangle]
 pub extern "C" fn dacm_permission_set(
     image: &[u8],
@@ -39,7 +42,7 @@ pub extern "C" fn dacm_permission_set(
     asking::sets::permission_set(image, subject, role, item)
 }
 
-// The number of rows of a list.
+// Counts the lines of a list. The result is how many rows it has.
 #[no_mangle]
 pub extern "C" fn dacm_list_count(image: &[u8], list: Item) -> Answer
     ensures { λ r. ⌜ r ≡ ask (now (image .entry)) (listCount (list .0)) ⌝ }
@@ -47,7 +50,7 @@ pub extern "C" fn dacm_list_count(image: &[u8], list: Item) -> Answer
     asking::lines::list_count(image, list)
 }
 
-// The byte of the image at which the rows of a list begin; 0 where it is refused or has none.
+// The offset in the image at which the rows of a list start. Where the call is refused or the list has no rows, it is 0.
 #[no_mangle]
 pub extern "C" fn dacm_list_start(image: &[u8], list: Item) -> usize
     ensures { λ r. ⌜ r ≡ listStart (now (image .entry)) (list .0) ⌝ }
@@ -55,7 +58,8 @@ pub extern "C" fn dacm_list_start(image: &[u8], list: Item) -> usize
     asking::lines::list_start(image, list)
 }
 
-// Some subject that may edit a list. Which of several is undecided.
+// Finds a subject, other than the custodian, that may edit the list without claiming a role. Its number is the result.
+// Which of several is undecided. Where there is none, the call is refused with 20.
 #[no_mangle]
 pub extern "C" fn dacm_find_editor(image: &[u8], list: Item) -> Answer
     ensures { λ r. ⌜ EditorAnswer (now (image .entry)) (list .0) r ⌝ }
@@ -63,7 +67,8 @@ pub extern "C" fn dacm_find_editor(image: &[u8], list: Item) -> Answer
     asking::editor::find_editor(image, list)
 }
 
-// Define a subject below a parent.
+// Defines a subject below a parent. The result is its number. From the custodian it gets all privileges that the call
+// names, from another caller only those that the caller's own row has. A claimed role does not count here.
 #[no_mangle]
 pub extern "C" fn dacm_define_subject(
     image: &mut [u8],
@@ -78,7 +83,8 @@ pub extern "C" fn dacm_define_subject(
     changing_subjects::define_subject(image, caller, role, parent, privileges)
 }
 
-// Grant a role to a receiver.
+// Grants a role to a receiver, over a domain in the caller's tree. The caller's own grant of the same role to the same
+// receiver is overwritten; where another subject gave it, the call is refused. The result is 0.
 #[no_mangle]
 pub extern "C" fn dacm_set_grant(
     image: &mut [u8],
@@ -95,7 +101,7 @@ pub extern "C" fn dacm_set_grant(
     changing_grants::set_grant(image, caller, receiver, role, domain, privileges)
 }
 
-// Take a role back from its receiver.
+// Takes a role back from its receiver. Only the subject that granted it and the custodian may. The result is 0.
 #[no_mangle]
 pub extern "C" fn dacm_remove_grant(
     image: &mut [u8],
@@ -109,7 +115,7 @@ pub extern "C" fn dacm_remove_grant(
     changing_grants::remove_grant(image, caller, receiver, role)
 }
 
-// Set a line of a list.
+// Sets a line of a list. The list's line of the same kind for the same subject is overwritten. The result is 0.
 #[no_mangle]
 pub extern "C" fn dacm_set_line(
     image: &mut [u8],
@@ -127,7 +133,7 @@ pub extern "C" fn dacm_set_line(
     changing_lines::set_line(image, caller, role, list, kind, subject, privileges)
 }
 
-// Remove a line of a list.
+// Removes the line of a list that has this kind and this subject. The result is 0.
 #[no_mangle]
 pub extern "C" fn dacm_remove_line(
     image: &mut [u8],
@@ -143,7 +149,7 @@ pub extern "C" fn dacm_remove_line(
     changing_lines::remove_line(image, caller, role, list, kind, subject)
 }
 
-// Create an item.
+// Creates an item, which the caller owns. A list governs it, or none where `list` is 0. The result is the item's number.
 #[no_mangle]
 pub extern "C" fn dacm_create_item(
     image: &mut [u8],
@@ -158,7 +164,8 @@ pub extern "C" fn dacm_create_item(
     changing_items::create_item(image, caller, role, list, flags)
 }
 
-// Bind an item to a list, or to none.
+// Binds an item to a list, or to none where `list` is 0. The custodian may, and the owner where the item is not locked.
+// The result is 0.
 #[no_mangle]
 pub extern "C" fn dacm_bind(image: &mut [u8], caller: Subject, item: Item, list: Item) -> Answer
     ensures { λ r. ⌜ r ≡ act (now (image .entry)) (bind (caller .0) (item .0) (list .0)) .answer ⌝ }
@@ -167,7 +174,7 @@ pub extern "C" fn dacm_bind(image: &mut [u8], caller: Subject, item: Item, list:
     changing_items::bind(image, caller, item, list)
 }
 
-// Hand an item over to a new owner.
+// Hands an item over to a new owner. Only the custodian may. The result is 0.
 #[no_mangle]
 pub extern "C" fn dacm_hand_over(
     image: &mut [u8],

@@ -1,14 +1,15 @@
--- Bytes copied one by one: what the loops keep, and what they make of the bytes in the end.
+-- Loops that copy bytes one by one: what each turn keeps, and the bytes at the end of the loop.
 use mathlib.Core.List.{List, _++_, append-assoc, append-nil}
 use mathlib.Core.Path.{_≡_, refl, sym, ap, _∙_}
 use Prim.Native.Nat.{ℕ, suc, _+_, _-_, _<_, _≤_}
 use native.Mathlib.Numerals.{add-one}
 use native.Mathlib.Omega.{arith}
 use lib.ListN.{length, getD, set, take, drop, replicate, length-drop, length-set, length-replicate, getD-replicate, List·getD-append}
-use lib.Seq.{slice-empty, paste, paste-zero, paste-suc, length-paste-head, length-take-le, take-length, take-suc, drop-cons, getD-drop, getD-take, getD-append-add, set-at}
+use lib.Seq.{slice-empty, paste, paste-zero, paste-suc, length-paste-head, length-take-le, take-length, take-suc}
+use lib.Seq.{drop-cons, getD-drop, getD-take, getD-append-add, set-at}
 use Rattle.fields.specs.Edits.{raised}
 
--- Upwards. Of the n bytes of s that are to stand in p from at on, j stand there in q.
+-- Copying upwards. The first n bytes of s go into p, from offset at on. In q the first j of them are written.
 pub record Copied (p : List ℕ) (at : ℕ) (s : List ℕ) (n : ℕ) (q : List ℕ) (j : ℕ) : Type 0 where
   pub made : q ≡ paste p at s j
   pub fits : at + n ≤ length p
@@ -37,7 +38,7 @@ module _ (p : List ℕ) (at : ℕ) (s : List ℕ) (n : ℕ) where
       let e : j ≡ n = omega arith in
       c .made ∙ ap (λ (k : ℕ). paste p at s k) e
 
-  -- the bytes behind those that stand in q are still p's
+  -- the bytes of q behind those that are written are still the bytes of p
   pub copied-behind : (q : List ℕ) (j k : ℕ) → Copied p at s n q j → getD q (at + j + k) 0 ≡ getD p (at + j + k) 0
   copied-behind q j k c =
       let head : at ≤ length p = omega arith in
@@ -45,7 +46,7 @@ module _ (p : List ℕ) (at : ℕ) (s : List ℕ) (n : ℕ) where
       let e : length (take at p ++ take j s) ≡ at + j = length-paste-head p at s j head some in
       rw (c .made, ← e, getD-append-add, e, getD-drop)
 
-  -- One turn of each loop: the byte was read from s, or below, from further up in q, or is a zero.
+  -- One turn of each loop. Here the byte is read from s. In the next module it is read from further up in q, or it is zero.
   pub copied-same : (q : List ℕ) (j : ℕ) → Copied p at s n q j → j < n → Copied p at s n (set q (at + j) (getD s j 0)) (j + 1)
   copied-same q j c more = copied-one q j (getD s j 0) c more refl
 
@@ -61,7 +62,8 @@ module _ (p : List ℕ) (at : ℕ) where
       → Copied p at (drop (at + k) p) n (set q (at + j) (getD q (at + j + k) 0)) (j + 1)
   copied-down k n q j c more =
       let e : at + j + k ≡ at + k + j = omega arith in
-      copied-one p at (drop (at + k) p) n q j (getD q (at + j + k) 0) c more (rw (copied-behind p at (drop (at + k) p) n q j k c, getD-drop, e))
+      copied-one p at (drop (at + k) p) n q j (getD q (at + j + k) 0) c more
+      (rw (copied-behind p at (drop (at + k) p) n q j k c, getD-drop, e))
 
   pub copied-zero-none : at ≤ length p → Copied p at (replicate (length p - at) 0) (length p - at) p 0
   copied-zero-none h =
@@ -77,7 +79,7 @@ module _ (p : List ℕ) (at : ℕ) where
       let h : j < m = omega arith in
       copied-one p at (replicate m 0) n q j 0 c more (sym (getD-replicate m j 0 0 h))
 
--- Downwards. Of the bytes of p from low on those from i on stand n places further up in q.
+-- Copying downwards, to offset low. In q the bytes of p from offset i on, except the last n, stand n bytes further up.
 pub record Raised (p : List ℕ) (n low : ℕ) (q : List ℕ) (i : ℕ) : Type 0 where
   pub made : q ≡ raised p n i
   pub fits : i + n ≤ length p
@@ -102,7 +104,8 @@ module _ (p : List ℕ) (n low : ℕ) where
       let long : length (take (suc j + n) p) ≡ suc j + n = length-take-le (suc j + n) p h in
       let inside : j < length (take (suc j + n) p) = omega arith in
       let below : j < suc j + n = omega arith in
-      let front : getD (raised p n (suc j)) j 0 ≡ getD (take (suc j + n) p) j 0 = List·getD-append (take (suc j + n) p) (drop (suc j) remaining) 0 j inside in
+      let front : getD (raised p n (suc j)) j 0 ≡ getD (take (suc j + n) p) j 0 =
+      List·getD-append (take (suc j + n) p) (drop (suc j) remaining) 0 j inside in
       let read : getD (raised p n (suc j)) j 0 ≡ getD p j 0 = front ∙ getD-take (suc j + n) p j 0 below in
       let sum : suc j + n ≡ suc (j + n) = omega arith in
       let last : j + n < length p = omega arith in

@@ -19,7 +19,15 @@ four-bytes s at h =
     let one : suc at ≡ at + 1 = omega arith in
     let two : suc (suc at) ≡ at + 2 = omega arith in
     let three : suc (suc (suc at)) ≡ at + 3 = omega arith in
-    rw (drop-cons s at 0 a, drop-cons s (suc at) 0 b, drop-cons s (suc (suc at)) 0 c, drop-cons s (suc (suc (suc at))) 0 d, ← one, ← two, ← three)
+    rw (
+      drop-cons s at 0 a,
+      drop-cons s (suc at) 0 b,
+      drop-cons s (suc (suc at)) 0 c,
+      drop-cons s (suc (suc (suc at))) 0 d,
+      ← one,
+      ← two,
+      ← three,
+    )
 
 pub field-read : (s : List ℕ) (at r offset-count : ℕ)
     → offset-count ≡ length s + 1 - 4

@@ -1,4 +1,5 @@
--- Whether n bytes from a place on are in a list. The code asks how many places there are for them, and no sum of its own can wrap.
+-- Whether a list has n bytes from an offset on. The code compares the offset with the number of offsets at which n bytes
+-- fit, so no sum of its own can wrap.
 use mathlib.Core.Bool.{cond}
 use mathlib.Core.List.{List}
 use mathlib.Core.Path.{_≡_}
@@ -8,7 +9,7 @@ use borrow.Author.Tests.{le-leb, lt-leb}
 use lib.Dec.{leb}
 use lib.ListN.{length}
 
--- A field read and an edit are of this form: one thing where the bytes are there, another where they are not.
+-- A field that is read and an edit both have this form: one value if the bytes are there, and another if they are not.
 module _ {A : Type 0} (s : List ℕ) (at n offset-count : ℕ) (new old : A) (e : offset-count ≡ length s + 1 - n) where
   pub unfit : offset-count ≤ at → old ≡ cond (leb (at + n) (length s)) new old
   unfit h =

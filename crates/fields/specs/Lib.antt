@@ -1,4 +1,4 @@
--- What the edits do to bytes. The first file has the definitions; the others are laws for the code that makes them.
+-- What the edits do to bytes. `Edits` has the definitions. The other files are laws about the code that makes these edits.
 pub mod Edits
 pub mod Fitting
 pub mod Copies

@@ -1,11 +1,12 @@
-// Rows replaced, put in and taken out in bytes that the caller lends. One set serves every table: a row's length is its size.
+// Replaces, inserts and removes rows in bytes that the caller lends. One set of functions serves every table: a row
+// here is bytes of any length.
 ghost use mathlib.Core.Path.{_≡_};
 ghost use Prim.Native.Nat.{_+_, _-_, _≤_};
 ghost use lib.ListN.{length, drop, replicate};
 ghost use lib.Seq.{paste};
 ghost use Rattle.fields.specs.Edits.{putBytes, insertBytes, removeBytes, raised};
 
-// A row in the place of the bytes from at on.
+// Writes a row over the bytes from offset `at` on.
 pub fn replace_row(bytes: &mut [u8], at: usize, row: &[u8])
     ensures { λ _. ⌜ now (bytes .exit) ≡ putBytes (now (bytes .entry)) at (now (row .entry)) ⌝ }
 {
@@ -15,7 +16,7 @@ pub fn replace_row(bytes: &mut [u8], at: usize, row: &[u8])
     copy_in(bytes, at, row);
 }
 
-// A row put in at a place. The last bytes, as many as the row has, are lost: callers see that they are free.
+// Inserts a row at an offset. The last bytes, as many as the row has, are lost: callers make sure that they are free.
 pub fn insert_row(bytes: &mut [u8], at: usize, row: &[u8])
     ensures { λ _. ⌜ now (bytes .exit) ≡ insertBytes (now (bytes .entry)) at (now (row .entry)) ⌝ }
 {
@@ -26,7 +27,7 @@ pub fn insert_row(bytes: &mut [u8], at: usize, row: &[u8])
     copy_in(bytes, at, row);
 }
 
-// A row taken out at a place. What it frees at the end is left zero, as unused rows have to be.
+// Removes a row at an offset. The bytes that this frees at the end become zero, as the bytes of unused rows have to be.
 pub fn remove_row(bytes: &mut [u8], at: usize, size: usize)
     ensures { λ _. ⌜ now (bytes .exit) ≡ removeBytes (now (bytes .entry)) at size ⌝ }
 {
@@ -38,7 +39,7 @@ pub fn remove_row(bytes: &mut [u8], at: usize, size: usize)
     clear_from(bytes, remaining);
 }
 
-// How many places there are for so many bytes: they fit at each place below this number, and at no other.
+// The number of offsets at which `size` bytes fit. They fit at every offset below this number, and at no other.
 pub fn offset_count(bytes: &[u8], size: usize) -> usize
     ensures { λ r. ⌜ r ≡ length (now (bytes .entry)) + 1 - size ⌝ }
 {
@@ -59,7 +60,7 @@ fn copy_in(bytes: &mut [u8], at: usize, row: &[u8])
     }
 }
 
-// Downwards, so that no byte is overwritten before it has moved.
+// Moves the last byte first, so that no byte is overwritten before it has moved.
 fn shift_up(bytes: &mut [u8], at: usize, size: usize)
     requires { ⌜ at + size ≤ length (now bytes) ⌝ }
     ensures { λ _. ⌜ now (bytes .exit) ≡ raised (now (bytes .entry)) size at ⌝ }

@@ -1,3 +1,4 @@
-// Bytes that a caller lends: a number read and written, and bytes replaced, put in and taken out. Nothing here knows a row.
+// Works on bytes that a caller lends: reads and writes a number, and replaces, inserts and removes bytes. Nothing here
+// knows what a row means.
 pub mod edits;
 pub mod numbers;

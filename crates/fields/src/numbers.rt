@@ -1,4 +1,4 @@
-// A number of four bytes, the lowest first.
+// A number in four bytes, the lowest byte first.
 ghost use mathlib.Core.Path.{_≡_};
 ghost use mathlib.Core.List.{[], _∷_};
 ghost use Rattle.model.specs.Image.{value, bytesOf, fieldAt};
@@ -6,7 +6,7 @@ ghost use Rattle.fields.specs.Edits.{putBytes};
 use crate::edits::offset_count;
 use crate::edits::replace_row;
 
-// A field that runs past the end is 0.
+// A field that runs past the end reads as 0.
 pub fn field(bytes: &[u8], at: usize) -> u32
     ensures { λ r. ⌜ r ≡ fieldAt 4 (now (bytes .entry)) at ⌝ }
 {

@@ -1,4 +1,5 @@
--- What a call that writes leaves: refused, the bytes at entry; done, the bytes of the tables that its rule gives. From an accepted image both are accepted.
+-- What a call that writes leaves. A refused call leaves the bytes as they were. A call that is done leaves the bytes of the
+-- tables that its rule gives. If the image was accepted before the call, it is accepted afterwards.
 use mathlib.Core.Bool.{Bool, true, false}
 use mathlib.Core.List.{List, [], _∷_, _++_}
 use mathlib.Core.Logic.{_≢_}
@@ -27,7 +28,7 @@ use Rattle.laws.specs.Kept.{well-formed-after}
 use Rattle.laws.specs.Back.{tables-well-formed}
 use Rattle.laws.specs.There.{tables-there, encode-accepted}
 
--- A refused call changes no byte, and its result is 0.
+-- A refused call changes no byte, and it answers 0 beside its refusal.
 
 pub refused-keeps : (img : List ℕ) (c : Change) → act img c .answer .number ≢ 0 → act img c .image ≡ img
 unfolding act
@@ -53,7 +54,7 @@ all-numbered img (createItem c r a f) = tt
 all-numbered img (bind c i a) = tt
 all-numbered img (handOver c i o) = tt
 
--- a call that is done has had every question answered yes
+-- if a call is done, every one of its questions was answered yes
 module _ (img : List ℕ) (c : Change) (done : act img c .answer .number ≡ 0) where
   every-passed : Passed (imageQuestions img ++ questions (tables img) c)
   unfolding act
@@ -64,7 +65,8 @@ module _ (img : List ℕ) (c : Change) (done : act img c .answer .number ≡ 0) 
 
   pub done-checked : check img ≡ 0
   unfolding check
-  done-checked = first-passed (imageQuestions img) (All-left (λ q. T (q .answer)) (imageQuestions img) (questions (tables img) c) every-passed)
+  done-checked =
+      first-passed (imageQuestions img) (All-left (λ q. T (q .answer)) (imageQuestions img) (questions (tables img) c) every-passed)
 
 module _ (img : List ℕ) (c : Change) (handed : Handed c) (accepted : Accepted img) where
   pub done-well-formed : act img c .answer .number ≡ 0 → WellFormed (after (tables img) c)
@@ -84,7 +86,8 @@ module _ (img : List ℕ) (c : Change) (handed : Handed c) (accepted : Accepted 
           rw (done-leaves img c done) (encode-accepted (after (tables img) c) (done-well-formed done))
       go false e = rw (refused-keeps img c (eqb-false (act img c .answer .number) 0 e)) accepted
 
-  -- what held of the tables, and holds of those by the rule where every question was answered yes, holds of the tables afterwards
+  -- A fact P about the tables holds afterwards if it held before and if it holds of the tables that the rule gives when every
+  -- question is answered yes.
   pub act-keeps : (P : Tables → Type 0)
       → P (tables img)
       → (WellFormed (tables img) → Passed (questions (tables img) c) → P (after (tables img) c))
@@ -97,8 +100,9 @@ module _ (img : List ℕ) (c : Change) (handed : Handed c) (accepted : Accepted 
           rw (done-tables done) (by-rule (tables-well-formed img accepted) (done-passed img c done))
       go false e = rw (refused-keeps img c (eqb-false (act img c .answer .number) 0 e)) before
 
--- A call that writes, return by return, as code comes to them. First the answer a: refused by the image, by one of the call's own questions, or done. o is
--- what opening the image came to, k what the call's questions said.
+-- A call that writes, with one law for each way in which its code returns. First the answer a: the image is refused, one of the
+-- call's own questions is answered no, or the call is done. o is what opening the image answered, k what the call's own
+-- questions answered: their first no, or 0.
 
 module _ (img : List ℕ) (o : Opened) (is : o ≡ opened img) (c : Change) (a : Answer) where
   pub act-image : (n : ℕ) → o ≡ Refused n → a ≡ answer n 0 → a ≡ act img c .answer
@@ -117,11 +121,15 @@ module _ (img : List ℕ) (o : Opened) (is : o ≡ opened img) (c : Change) (a :
       pub act-done : (v : ℕ) → a ≡ answer 0 v → k ≡ 0 → v ≡ changeResult (tablesBy lay img) c → a ≡ act img c .answer
       act-done v e done made-is = e ∙ sym (own ∙ rw (← asked, done, ← made-is))
 
-    -- where what was asked says that every question was answered yes
-    pub act-passed : (v : ℕ) → a ≡ answer 0 v → firstNo (questions (tablesBy lay img) c) ≡ 0 → v ≡ changeResult (tablesBy lay img) c → a ≡ act img c .answer
+    -- the same, if it is known in another way that every question was answered yes
+    pub act-passed : (v : ℕ)
+        → a ≡ answer 0 v
+        → firstNo (questions (tablesBy lay img) c) ≡ 0
+        → v ≡ changeResult (tablesBy lay img) c
+        → a ≡ act img c .answer
     act-passed = act-done (firstNo (questions (tablesBy lay img) c)) refl
 
--- Then the image, by the answer. Both are what a call promises.
+-- Then the image afterwards, which follows from the answer. A call promises both.
 
 pub also : (img : List ℕ) (c : Change) (a : Answer) (new : List ℕ)
     → a ≡ act img c .answer
@@ -148,7 +156,7 @@ module _ (img : List ℕ) (c : Change) (a : Answer) (answered-so : a ≡ act img
     pub leaves : (new : List ℕ) → new ≡ encode (after (tables img) c) → new ≡ act img c .image
     leaves new left = left ∙ sym (done-leaves img c number-done)
 
--- The bytes of a slice, as code knows them.
+-- A slice is a list of bytes: code knows that each of its numbers fits in 8 bits.
 pub slice-bytes : (s : List ℕ) → ((i : ℕ) → Fits w8 (getD s i 0)) → Bytes s
 slice-bytes [] h = tt
 slice-bytes (x ∷ s) h = (byte x (h 0), slice-bytes s (λ i. h (suc i)))

@@ -1,4 +1,4 @@
--- The first no of a list of questions: it is 0 exactly where every question is answered yes.
+-- The first no of a list of questions: it is 0 exactly when every question is answered yes.
 use mathlib.Core.Bool.{Bool, true, false, _&&_, not, cond}
 use mathlib.Core.List.{List, [], _∷_, _++_}
 use mathlib.Core.Logic.{inl, inr}
@@ -29,7 +29,8 @@ passed-first (q ∷ qs) n e = go (passed-first qs (and-r (not (eqb (q .number) 0
     go rest true a f = (true-T (q .answer) a, rest f)
     go rest false a f = absurd (T-not (eqb (q .number) 0) (and-l (not (eqb (q .number) 0)) (numbered qs) n) (rw f tt))
 
--- Questions asked one after the other, as code does: one of them, whose answer is a, and those after it. The code tests it itself, or was told its answer as t.
+-- Questions asked one after the other, as code does: question n, whose answer is a, and the questions qs after it. Either the
+-- code tests the question itself, or a callee answers it with t.
 module _ (n : ℕ) (a : Bool) (qs : List Question) where
   pub tested-no : a ≡ false → n ≡ firstNo (n asks a ∷ qs)
   unfolding firstNo
@@ -50,7 +51,7 @@ pub asked-all : 0 ≡ firstNo []
 unfolding firstNo
 asked-all = refl
 
--- Questions followed by others: the others count where the first are answered yes.
+-- Questions qs followed by questions rs: rs decide if all of qs are answered yes.
 pub first-append : (qs rs : List Question) → T (numbered qs) → firstNo (qs ++ rs) ≡ cond (eqb (firstNo qs) 0) (firstNo rs) (firstNo qs)
 unfolding firstNo
 first-append [] rs n = refl
@@ -60,7 +61,7 @@ first-append (q ∷ qs) rs n =
       | inr e ↦ rw (e, not-true (eqb (q .number) 0) (T-true (not (eqb (q .number) 0)) (and-l (not (eqb (q .number) 0)) (numbered qs) n)))
     ]
 
--- as code asks them: n is what the first said
+-- the same as code asks them: n is the first no of qs, or 0
 module _ (qs rs : List Question) (n : ℕ) (named : T (numbered qs)) (said : n ≡ firstNo qs) where
   pub first-left : (n ≡ 0 → ⊥) → n ≡ firstNo (qs ++ rs)
   first-left h = sym (first-append qs rs named ∙ rw (← said, ne-eqb n 0 h))
@@ -68,7 +69,7 @@ module _ (qs rs : List Question) (n : ℕ) (named : T (numbered qs)) (said : n �
   pub first-right : (r : ℕ) → n ≡ 0 → r ≡ firstNo rs → r ≡ firstNo (qs ++ rs)
   first-right r h e = e ∙ sym (first-append qs rs named ∙ rw (← said, eq-eqb n 0 h))
 
--- the questions of an accepted image are answered yes
+-- if the check of an image answers 0, every question about the image is answered yes
 pub image-passed : (img : List ℕ) → check img ≡ 0 → Passed (imageQuestions img)
 unfolding check imageQuestions
 image-passed img e = passed-first (imageQuestions img) tt e

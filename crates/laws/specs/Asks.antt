@@ -1,4 +1,5 @@
--- A call that asks, return by return: refused by the image, by one of its own questions, or done.
+-- A call that asks, with one law for each way in which its code returns: the image is refused, one of the call's own questions
+-- is answered no, or the call is done.
 use mathlib.Core.Bool.{false}
 use mathlib.Core.List.{List, _++_}
 use mathlib.Core.Path.{_≡_, refl, sym, ap, _∙_}
@@ -16,12 +17,13 @@ use Rattle.model.specs.Questions.{Question, firstNo, imageQuestions, askQuestio
 use Rattle.laws.specs.Answers.{first-left, first-right, asked-all}
 use Rattle.laws.specs.Opens.{refused-by, opened-with, layout-with}
 
--- Any call's questions qs after those of the image, and its result v, by the tables. o is what opening the image came to.
+-- Any call. Its own questions qs, which come after those of the image, and its result v depend on the tables. o is what opening
+-- the image answered.
 module _ (img : List ℕ) (o : Opened) (is : o ≡ opened img) (qs : Tables → List Question) (v : Tables → ℕ) where
   abbrev answers : Answer
   answers = answered (firstNo (imageQuestions img ++ qs (tables img))) (v (tables img))
 
-  -- refused, the number is the image's
+  -- if the image is refused, the call answers the image's refusal
   pub number-image : (n : ℕ) → o ≡ Refused n → n ≡ firstNo (imageQuestions img ++ qs (tables img))
   unfolding check imageQuestions
   number-image n case = let by = refused-by img o is n case in first-left (imageQuestions img) (qs (tables img)) n tt (by .0) (by .1)
@@ -29,7 +31,7 @@ module _ (img : List ℕ) (o : Opened) (is : o ≡ opened img) (qs : Tables → 
   pub answers-image : (n : ℕ) → o ≡ Refused n → answer n 0 ≡ answers
   answers-image n case = rw (← number-image n case, ne-eqb n 0 (refused-by img o is n case .1))
 
-  -- opened, it is that of the call's own questions by the layout
+  -- if the image is opened, the call's own questions decide; they are asked of the tables by the layout
   module _ (lay : Layout) (case : o ≡ With lay) where
     pub number-own : firstNo (qs (tablesBy lay img)) ≡ firstNo (imageQuestions img ++ qs (tables img))
     unfolding check imageQuestions
@@ -55,7 +57,11 @@ module _ (img : List ℕ) (o : Opened) (is : o ≡ opened img) (q : Ask) (a : An
     pub ask-no : (k : ℕ) → eqb k 0 ≡ false → k ≡ firstNo (askQuestions (tablesBy lay img) q) → a ≡ answer k 0 → a ≡ ask img q
     ask-no k some h e = e ∙ sym (own ∙ rw (← h, some))
 
-    pub ask-done : (v : ℕ) → 0 ≡ firstNo (askQuestions (tablesBy lay img) q) → v ≡ askResult (tablesBy lay img) q → a ≡ answer 0 v → a ≡ ask img q
+    pub ask-done : (v : ℕ)
+        → 0 ≡ firstNo (askQuestions (tablesBy lay img) q)
+        → v ≡ askResult (tablesBy lay img) q
+        → a ≡ answer 0 v
+        → a ≡ ask img q
     ask-done v h f e = e ∙ sym (own ∙ rw (← h, ← f))
 
 -- the check asks nothing more than the questions of the image

@@ -1,4 +1,5 @@
--- An accepted image is the bytes of its own tables, and those are well-formed.
+-- An accepted image is the bytes of its own tables, and these tables are well-formed. Each fact about the whole image (its
+-- header, its bytes, its length) is put together from the law about one table's block, table by table.
 use mathlib.Core.List.{List, _++_}
 use mathlib.Core.Path.{_≡_, refl, sym, ap, ap₂, _∙_}
 use Prim.Native.Nat.{ℕ, _+_, _≤_}
@@ -9,7 +10,9 @@ use lib.ListN.{length, drop, take-append-drop}
 use lib.Seq.{drop-length}
 use Rattle.model.specs.declared.Table.{Table}
 use Rattle.model.specs.Lists.{All}
-use Rattle.model.specs.Image.{Format, Block, widthOf, layoutOf, tablesBy, tables, rowsIn, capacity, subjectFormat, grantFormat, lineFormat, itemFormat, headerWidths, headerSize, fieldsAt, rowBytes, headerOf, bodyOf, blocks, encode, laidOut}
+use Rattle.model.specs.Image.{Format, Block, widthOf, layoutOf, tablesBy, tables, rowsIn, capacity}
+use Rattle.model.specs.Image.{subjectFormat, grantFormat, lineFormat, itemFormat, headerWidths}
+use Rattle.model.specs.Image.{headerSize, fieldsAt, rowBytes, headerOf, bodyOf, blocks, encode, laidOut}
 use Rattle.model.specs.Questions.{imageQuestions, Accepted}
 use Rattle.laws.specs.WellFormed.{WellFormed, Passed, Fits, extents}
 use Rattle.laws.specs.Fields.{fields-back, bytes-drop}
@@ -32,7 +35,8 @@ module _ (img : List ℕ) (accepted : Accepted img) where
   header-back : headerOf headerSize (blocks (tables img)) ≡ fieldsAt headerWidths img 0
   unfolding tablesBy layoutOf
   header-back =
-      header-block (subjectFormat w) (subject-lawful w) (layoutOf img .subjects) img (facts .subjects-laid-out) (blocks-from 1) (facts .first)
+      header-block (subjectFormat w) (subject-lawful w) (layoutOf img .subjects) img (facts .subjects-laid-out) (blocks-from 1)
+      (facts .first)
       (header-block (grantFormat w) (grant-lawful w) (layoutOf img .grants) img (facts .grants-laid-out) (blocks-from 2) refl
       (header-block (lineFormat w) (line-lawful w) (layoutOf img .lines) img (facts .lines-laid-out) (blocks-from 3) refl
       (header-block itemFormat item-lawful (layoutOf img .items) img (facts .items-laid-out) (blocks-from 4) refl refl)))
@@ -40,10 +44,14 @@ module _ (img : List ℕ) (accepted : Accepted img) where
   body-back : bodyOf (blocks (tables img)) ≡ drop headerSize img
   unfolding tablesBy layoutOf
   body-back =
-      body-block (subjectFormat w) (subject-lawful w) (layoutOf img .subjects) img (facts .subjects-laid-out) (blocks-from 1) (accepted .bytes) (subjects-inside img facts) (facts .subjects-blank)
-      (body-block (grantFormat w) (grant-lawful w) (layoutOf img .grants) img (facts .grants-laid-out) (blocks-from 2) (accepted .bytes) (grants-inside img facts) (facts .grants-blank)
-      (body-block (lineFormat w) (line-lawful w) (layoutOf img .lines) img (facts .lines-laid-out) (blocks-from 3) (accepted .bytes) (lines-inside img facts) (facts .lines-blank)
-      (body-block itemFormat item-lawful (layoutOf img .items) img (facts .items-laid-out) (blocks-from 4) (accepted .bytes) (items-inside img facts) (facts .items-blank)
+      body-block (subjectFormat w) (subject-lawful w) (layoutOf img .subjects) img (facts .subjects-laid-out) (blocks-from 1)
+      (accepted .bytes) (subjects-inside img facts) (facts .subjects-blank)
+      (body-block (grantFormat w) (grant-lawful w) (layoutOf img .grants) img (facts .grants-laid-out) (blocks-from 2)
+      (accepted .bytes) (grants-inside img facts) (facts .grants-blank)
+      (body-block (lineFormat w) (line-lawful w) (layoutOf img .lines) img (facts .lines-laid-out) (blocks-from 3)
+      (accepted .bytes) (lines-inside img facts) (facts .lines-blank)
+      (body-block itemFormat item-lawful (layoutOf img .items) img (facts .items-laid-out) (blocks-from 4)
+      (accepted .bytes) (items-inside img facts) (facts .items-blank)
       (sym (drop-length img) ∙ ap (λ (n : ℕ). drop n img) (sym (facts .total))))))
       ∙ ap (λ (n : ℕ). drop n img) (sym (facts .first))
 
@@ -54,7 +62,7 @@ module _ (img : List ℕ) (accepted : Accepted img) where
       ∙ ap (λ (front : List ℕ). front ++ drop headerSize img) (fields-back headerWidths img (accepted .bytes) (facts .long))
       ∙ take-append-drop headerSize img
 
-  -- its rows are within their rooms
+  -- a table's rows in use are within its capacity
   in-capacity : {A : Type 0} (f : Format A) (t : Table) → Lawful f → T (laidOut f t) → length (rowsIn f t img) ≤ capacity f t
   in-capacity f t law is-laid-out = rw (rows-count f t img) (rows-few f law t img is-laid-out)
 
@@ -69,7 +77,8 @@ module _ (img : List ℕ) (accepted : Accepted img) where
       ∙ total-block (subjectFormat w) (subject-lawful w) (layoutOf img .subjects) img (facts .subjects-laid-out) (blocks-from 1)
       (total-block (grantFormat w) (grant-lawful w) (layoutOf img .grants) img (facts .grants-laid-out) (blocks-from 2)
       (total-block (lineFormat w) (line-lawful w) (layoutOf img .lines) img (facts .lines-laid-out) (blocks-from 3)
-      (total-block itemFormat item-lawful (layoutOf img .items) img (facts .items-laid-out) (blocks-from 4) (add-zero (layoutOf img .items .end) ∙ facts .total))))
+      (total-block itemFormat item-lawful (layoutOf img .items) img (facts .items-laid-out) (blocks-from 4)
+      (add-zero (layoutOf img .items .end) ∙ facts .total))))
 
   pub tables-well-formed : WellFormed (tables img)
   unfolding tablesBy imageQuestions

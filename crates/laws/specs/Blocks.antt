@@ -1,4 +1,5 @@
--- A table's block of bytes, for any format: what a table of an image holds when its bytes are a block, and the block made of what a table holds.
+-- A table's block of bytes, for any format. If the bytes of a table in an image are the block of some rows, the table holds
+-- these rows. The other way round, the block made of the rows that a table holds is the table's bytes.
 use mathlib.Core.List.{List, [], _∷_, _++_, append-assoc}
 use mathlib.Core.Path.{_≡_, refl, ap, _∙_}
 use Prim.Native.Nat.{ℕ, zero, suc, _+_, _-_, _*_, _%_, _<_, _≤_}
@@ -51,9 +52,10 @@ module _ {A : Type 0} (f : Format A) where
   pub block-bytes : (cap : ℕ) (xs : List A) → Bytes (blockOf f cap xs .bytes)
   unfolding blockOf
   block-bytes cap xs =
-      All-append (λ b. b < 256) (joined f xs) (replicate (cap * size f - length xs * size f) 0) (joined-bytes f xs) (zero-bytes (cap * size f - length xs * size f))
+      All-append (λ b. b < 256) (joined f xs) (replicate (cap * size f - length xs * size f) 0)
+      (joined-bytes f xs) (zero-bytes (cap * size f - length xs * size f))
 
-  -- What the table t of an image holds where its bytes are the block of the rows xs.
+  -- What holds of the table t of an image if its bytes are the block of the rows xs.
   pub record Holds (cap : ℕ) (xs : List A) (t : Table) (img : List ℕ) : Type 0 where
     pub rows-are : rowsIn f t img ≡ xs
     pub capacity-is : capacity f t ≡ cap
@@ -109,7 +111,8 @@ module _ {A : Type 0} (f : Format A) where
       unfolding blockOf
       holds-from fit = record { rows-are = rows-stand fit; capacity-is = capacity-stands; laid-out = is-laid-out; unused-zero = blank }
 
-  -- What a table that lies right holds makes its bytes again, and its fields of the header.
+  -- A table that is laid out: the block made of its rows is the table's bytes again, and its fields of the header are the
+  -- table's.
   module _ (law : Lawful f) (t : Table) (img : List ℕ) (is-laid-out : T (laidOut f t)) where
     tests : All T (leb (t .start) (t .end) ∷ eqb ((t .end - t .start) % size f) 0 ∷ leb (t .used) (capacity f t) ∷ [])
     tests = yes-all (leb (t .start) (t .end) ∷ eqb ((t .end - t .start) % size f) 0 ∷ leb (t .used) (capacity f t) ∷ []) is-laid-out
@@ -129,14 +132,16 @@ module _ {A : Type 0} (f : Format A) where
     pub rows-extent : t .used * size f ≤ t .end - t .start
     rows-extent = rw extent-back at (mul-le-mul-right (size f) rows-few)
 
-    -- where the next table starts
+    -- the next table starts where this one ends
     pub next-start : {at : ℕ} → at ≡ t .start → at + blockOf f (capacity f t) (rowsIn f t img) .extent ≡ t .end
     next-start e =
         let ordered : t .start ≤ t .end = starts-before-end in
-        let wide : blockOf f (capacity f t) (rowsIn f t img) .extent ≡ t .end - t .start = block-extent (capacity f t) (rowsIn f t img) ∙ extent-back in
+        let wide : blockOf f (capacity f t) (rowsIn f t img) .extent ≡ t .end - t .start =
+        block-extent (capacity f t) (rowsIn f t img) ∙ extent-back in
         omega arith
 
-    rows-bytes : Bytes img → t .used * size f ≤ length (drop (t .start) img) → joined f (rowsIn f t img) ≡ take (t .used * size f) (drop (t .start) img)
+    rows-bytes : Bytes img → t .used * size f ≤ length (drop (t .start) img)
+        → joined f (rowsIn f t img) ≡ take (t .used * size f) (drop (t .start) img)
     unfolding rowsIn
     rows-bytes b h = rows-back f law (t .used) (drop (t .start) img) (bytes-drop (t .start) img b) h
 
@@ -148,22 +153,33 @@ module _ {A : Type 0} (f : Format A) where
         let in-capacity : t .used * size f ≤ t .end - t .start = rows-extent in
         let in-image : t .used * size f ≤ length (drop (t .start) img) = simp length-drop (omega arith) in
         let gap : ℕ = t .end - t .start - t .used * size f in
-        let behind : drop (t .used * size f) (drop (t .start) img) ≡ drop (t .start + t .used * size f) img = drop-drop (t .used * size f) (t .start) img in
+        let behind : drop (t .used * size f) (drop (t .start) img) ≡ drop (t .start + t .used * size f) img =
+        drop-drop (t .used * size f) (t .start) img in
         let from-gap : gap ≤ length (drop (t .start + t .used * size f) img) = simp length-drop (omega arith) in
         let ends : t .end - (t .start + t .used * size f) ≡ gap = omega arith in
         let blank-gap : take gap (drop (t .start + t .used * size f) img) ≡ replicate gap 0 =
-        rw (length-take-le gap (drop (t .start + t .used * size f) img) from-gap) at (zeros-are (take gap (drop (t .start + t .used * size f) img)) (rw ends at blank)) in
+        rw (length-take-le gap (drop (t .start + t .used * size f) img) from-gap) at
+        (zeros-are (take gap (drop (t .start + t .used * size f) img)) (rw ends at blank)) in
         let sum-is : t .end - t .start ≡ t .used * size f + gap = omega arith in
         let whole : take (t .end - t .start) (drop (t .start) img) ≡ take (t .used * size f + gap) (drop (t .start) img) =
         ap (λ (n : ℕ). take n (drop (t .start) img)) sum-is in
-        rw (rows-bytes b in-image, rows-count f t img, extent-back, whole, take-add (t .used * size f) gap (drop (t .start) img), behind, blank-gap)
+        rw (
+          rows-bytes b in-image,
+          rows-count f t img,
+          extent-back,
+          whole,
+          take-add (t .used * size f) gap (drop (t .start) img),
+          behind,
+          blank-gap,
+        )
 
-    -- A table in front of those from its end on: the header's fields and the bytes.
+    -- A table followed by others, whose blocks are bs: the header's fields, the bytes and the length.
 
     pub header-block : {at : ℕ} {hs : List ℕ} (bs : List Block) → at ≡ t .start → headerOf (t .end) bs ≡ hs
         → headerOf at (blockOf f (capacity f t) (rowsIn f t img) ∷ bs) ≡ t .used ∷ t .start ∷ hs
     header-block bs e rest =
-        let used-is : blockOf f (capacity f t) (rowsIn f t img) .used ≡ t .used = block-used (capacity f t) (rowsIn f t img) ∙ rows-count f t img in
+        let used-is : blockOf f (capacity f t) (rowsIn f t img) .used ≡ t .used =
+        block-used (capacity f t) (rowsIn f t img) ∙ rows-count f t img in
         rw (next-start e, used-is, e, rest)
 
     pub body-block : (bs : List Block) → Bytes img → t .end ≤ length img → T (zeros (unused f t img)) → bodyOf bs ≡ drop (t .end) img
@@ -171,7 +187,8 @@ module _ {A : Type 0} (f : Format A) where
     body-block bs b inside blank rest =
         rw (block-back b inside blank, rest) (seam (t .start) (t .end) img starts-before-end)
 
-    pub total-block : {n : ℕ} (bs : List Block) → t .end + extents bs ≡ n → t .start + extents (blockOf f (capacity f t) (rowsIn f t img) ∷ bs) ≡ n
+    pub total-block : {n : ℕ} (bs : List Block) → t .end + extents bs ≡ n
+        → t .start + extents (blockOf f (capacity f t) (rowsIn f t img) ∷ bs) ≡ n
     total-block bs rest =
         let next : t .start + blockOf f (capacity f t) (rowsIn f t img) .extent ≡ t .end = next-start refl in
         omega arith

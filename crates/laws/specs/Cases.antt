@@ -1,18 +1,18 @@
--- An answer with two cases: a yes, which holds something, and a no, which holds the number of the first question that is answered no. m is that number, or 0.
+-- An answer with two cases: a yes, which holds something, and a no, which holds the refusal. m is the refusal, or 0.
 use mathlib.Core.Bool.{Bool, true, false, cond}
 use mathlib.Core.Path.{_≡_, refl, sym, ap, _∙_}
 use Prim.Native.Nat.{ℕ}
 use borrow.Author.Tests.{eqb-true, eqb-false, ne-eqb}
 use lib.Dec.{eqb}
 
--- What makes two constructors such cases.
+-- What two constructors need for this: a yes is never a no, and each determines what it holds.
 pub record Apart {A O : Type 0} (yes : A → O) (no : ℕ → O) : Type 0 where
   pub differ : (x : A) (n : ℕ) → yes x ≡ no n → ⊥
   pub one-yes : (x y : A) → yes x ≡ yes y → x ≡ y
   pub one-no : (m n : ℕ) → no m ≡ no n → m ≡ n
 
 module _ {A O : Type 0} (yes : A → O) (no : ℕ → O) (m : ℕ) (x : A) where
-  -- how code comes to a case
+  -- how code arrives at each case
   pub case-no : (n : ℕ) → eqb n 0 ≡ false → n ≡ m → no n ≡ cond (eqb m 0) (yes x) (no m)
   case-no n some-no e = rw (← e, some-no)
 
@@ -22,7 +22,7 @@ module _ {A O : Type 0} (yes : A → O) (no : ℕ → O) (m : ℕ) (x : A) where
   pub case-yes : (y : A) → 0 ≡ m → y ≡ x → yes y ≡ cond (eqb m 0) (yes x) (no m)
   case-yes y all e = rw (← all, e)
 
-  -- the number of a case is m, where each case has the number that it should
+  -- if `number` gives 0 for the yes and m for the no, it gives m for the answer
   pub case-number : (number : O → ℕ) → number (yes x) ≡ 0 → number (no m) ≡ m
       → (o : O)
       → o ≡ cond (eqb m 0) (yes x) (no m)
@@ -33,7 +33,7 @@ module _ {A O : Type 0} (yes : A → O) (no : ℕ → O) (m : ℕ) (x : A) where
       go true z = of-yes ∙ sym (eqb-true m 0 z)
       go false z = of-no
 
-  -- what a case says; o is what the code was told
+  -- what each case says; o is the answer that the code has
   module _ (apart : Apart yes no) (o : O) (is : o ≡ cond (eqb m 0) (yes x) (no m)) where
     pub no-says : (n : ℕ) → o ≡ no n → (n ≡ m) × (n ≡ 0 → ⊥)
     no-says n case = go (eqb m 0) refl (sym case ∙ is)

@@ -1,4 +1,5 @@
--- Fields and rows of fields, for any width: a number survives the trip through its bytes, and bytes the trip through their number.
+-- Fields and rows of fields, for any width. A number that is written as bytes is read back from them, and bytes that are read
+-- as a number are written back from it.
 use mathlib.Core.Bool.{Bool, true, false, cond}
 use mathlib.Core.List.{List, [], _∷_, _++_, append-assoc}
 use mathlib.Core.Logic.{⊎-elim}
@@ -67,7 +68,7 @@ bytes-mod (suc k) v =
     let pieces = head-tail (v % 256 ^ suc k) (v / 256 % 256 ^ k) (v % 256) whole byte in
     rw (pieces .0, pieces .1, bytes-mod k (v / 256))
 
--- Parts of bytes.
+-- Slices of bytes.
 
 pub bytes-take : (n : ℕ) (s : List ℕ) → Bytes s → Bytes (take n s)
 bytes-take zero [] b = tt
@@ -81,7 +82,7 @@ bytes-drop zero (x ∷ s) b = b
 bytes-drop (suc n) [] b = tt
 bytes-drop (suc n) (x ∷ s) b = bytes-drop n s (b .1)
 
--- A field at a place.
+-- A field at an offset.
 
 pub field-in : (k : ℕ) (s : List ℕ) (at : ℕ) → at + k ≤ length s → fieldAt k s at ≡ value (take k (drop at s))
 unfolding fieldAt
@@ -119,7 +120,9 @@ field-below k s at b = ⊎-elim inside past (le-or-lt (at + k) (length s))
     inside : at + k ≤ length s → fieldAt k s at < 256 ^ k
     inside h =
         let long-enough : k ≤ length (drop at s) = simp length-drop (omega arith) in
-        rw (field-in k s at h) (rw (length-take-le k (drop at s) long-enough) at (value-below (take k (drop at s)) (bytes-take k (drop at s) (bytes-drop at s b))))
+        rw (field-in k s at h)
+        (rw (length-take-le k (drop at s) long-enough) at
+        (value-below (take k (drop at s)) (bytes-take k (drop at s) (bytes-drop at s b))))
 
     past : length s < at + k → fieldAt k s at < 256 ^ k
     past h = rw (field-out k s at h) (power-positive k)

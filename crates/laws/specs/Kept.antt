@@ -1,4 +1,5 @@
--- Every call keeps the tables well-formed. Each call makes one table anew; for each table there is a law that says what is asked of the new rows.
+-- Every call keeps the tables well-formed. Each call replaces the rows of one table. For each table there is a law that says
+-- what the new rows must fulfil.
 use mathlib.Core.Bool.{true, false, _||_}
 use mathlib.Core.List.{List, [], _∷_, _++_}
 use mathlib.Core.Logic.{_⊎_, inl, inr}
@@ -18,17 +19,24 @@ use Rattle.model.specs.Lists.{All, every, everyNumbered, isThere}
 use Rattle.model.specs.Sorted.{find, put, cut, ascending}
 use Rattle.model.specs.Tree.{inTree}
 use Rattle.model.specs.WhoAndWhat.{custodian, everything, has, within}
-use Rattle.model.specs.Image.{Tables, widthIn, subjectFormat, grantFormat, lineFormat, itemFormat, subjectRow, grantRow, lineRow, itemRow, noSubject, noItem, subjectIn, parentIn, privilegesIn, subjectUsed, itemIn, itemUsed, isList, noneOrList, subjectRules, grantRules, lineRules, itemRules, grantKey, lineKey, blockOf, subjectsHold, itemsHold, linesHold, grantsHold, withList, withOwner}
+use Rattle.model.specs.Image.{Tables, widthIn, subjectFormat, grantFormat, lineFormat, itemFormat}
+use Rattle.model.specs.Image.{subjectRow, grantRow, lineRow, itemRow, noSubject, noItem, subjectIn}
+use Rattle.model.specs.Image.{parentIn, privilegesIn, subjectUsed, itemIn, itemUsed, isList, noneOrList}
+use Rattle.model.specs.Image.{subjectRules, grantRules, lineRules, itemRules, grantKey, lineKey, blockOf}
+use Rattle.model.specs.Image.{subjectsHold, itemsHold, linesHold, grantsHold, withList, withOwner}
 use Rattle.model.specs.Calls.{Change, Handed, withSubjects, withGrants, withLines, withItems, setItem, newPrivileges, after}
 use Rattle.model.specs.Calls.Change.{defineSubject, setGrant, removeGrant, setLine, removeLine, createItem, bind, handOver}
 use Rattle.model.specs.Questions.{questions}
-use Rattle.laws.specs.Tests.{and-i, and-l, and-r, or-l, or-r, or-cases, two, eq-or-ne, every-at, every-map, every-append, every-set, every-All, All-every, All-map, All-both, All-append, All-set, All-at}
+use Rattle.laws.specs.Tests.{and-i, and-l, and-r, or-l, or-r, or-cases, two, eq-or-ne}
+use Rattle.laws.specs.Tests.{every-at, every-map, every-append, every-set, every-All}
+use Rattle.laws.specs.Tests.{All-every, All-map, All-both, All-append, All-set, All-at}
 use Rattle.laws.specs.Sorted.{All-put, All-cut, ascending-put, ascending-cut, put-fits, length-cut-le}
 use Rattle.laws.specs.Numbered.{privileges-same, old-tree-same, subject-used, item-same, item-set, item-other}
 use Rattle.laws.specs.Sets.{both-within, within-everything}
 use Rattle.laws.specs.WellFormed.{Fits, WellFormed, Passed}
 
--- The rows of a sorted table: there is room for them, each is good, and they are ascending. So they are after a row is put or cut.
+-- The rows of a sorted table: they are within the capacity, each is good, and they are ascending. Putting or cutting a row
+-- keeps this.
 record SortedRows {A : Type 0} (key : A → List ℕ) (Good : A → Type 0) (cap : ℕ) (rows : List A) : Type 0 where
   within-capacity : length rows ≤ cap
   all-good : All Good rows
@@ -51,13 +59,15 @@ module _ {A : Type 0} (key : A → List ℕ) (Good : A → Type 0) (cap : ℕ) (
         sorted = ascending-cut key k rows (old .sorted);
       }
 
--- The grants hold their rules where each row does and they are ascending; so the lines.
+-- The grants hold their rules exactly when each row does and the rows are ascending. The same holds for the lines.
 
 module _ (t : Tables) where
   pub grants-held : All (λ g. T (grantRules (t .subjects) g)) (t .grants) → T (ascending grantKey (t .grants)) → T (grantsHold t)
   unfolding grantsHold
   grants-held rules up =
-      and-i (every (grantRules (t .subjects)) (t .grants)) (ascending grantKey (t .grants)) (All-every (grantRules (t .subjects)) (t .grants) rules) up
+      and-i (every (grantRules (t .subjects)) (t .grants)) (ascending grantKey (t .grants))
+      (All-every (grantRules (t .subjects)) (t .grants) rules)
+      up
 
   pub grant-rules : T (grantsHold t) → All (λ g. T (grantRules (t .subjects) g)) (t .grants)
   unfolding grantsHold
@@ -86,9 +96,9 @@ module _ (t : Tables) where
   unfolding linesHold
   lines-ascending h = and-r (every (lineRules (t .subjects) (t .items)) (t .lines)) (ascending lineKey (t .lines)) h
 
--- A row's rules still hold where every subject in use stays so and every access list stays one.
+-- A row's rules still hold if every subject in use stays in use and every access list stays one.
 
--- it stays one where no item goes and no flag changes
+-- an access list stays one if no item is removed and the flags are kept
 list-kept : (old new : List ItemRow)
     → length old ≤ length new
     → ((i : ℕ) → T (itemUsed old i) → itemIn new i .flags ≡ itemIn old i .flags)
@@ -99,20 +109,20 @@ list-kept old new l same (suc n) t =
     and-i (ltb n (length new)) (has 0 (itemIn new (suc n) .flags)) (omega (arith, ltb→lt, lt→ltb))
     (rw (same (suc n) used) (and-r (ltb n (length old)) (has 0 (itemIn old (suc n) .flags)) t))
 
-module _ (subjects more : List SubjectRow) (items anew : List ItemRow)
+module _ (subjects more : List SubjectRow) (items later : List ItemRow)
     (used : (s : ℕ) → T (subjectUsed subjects s) → T (subjectUsed more s))
-    (lists : (a : ℕ) → T (isList items a) → T (isList anew a)) where
-  none-or-list-kept : (a : ℕ) → T (noneOrList items a) → T (noneOrList anew a)
+    (lists : (a : ℕ) → T (isList items a) → T (isList later a)) where
+  none-or-list-kept : (a : ℕ) → T (noneOrList items a) → T (noneOrList later a)
   none-or-list-kept a t = go (or-cases (eqb a 0) (isList items a) t)
     where
-      go : T (eqb a 0) ⊎ T (isList items a) → T (noneOrList anew a)
-      go (inl e) = or-l (eqb a 0) (isList anew a) e
-      go (inr e) = or-r (eqb a 0) (isList anew a) (lists a e)
+      go : T (eqb a 0) ⊎ T (isList items a) → T (noneOrList later a)
+      go (inl e) = or-l (eqb a 0) (isList later a) e
+      go (inr e) = or-r (eqb a 0) (isList later a) (lists a e)
 
-  item-kept : (n : ℕ) (i : ItemRow) → T (itemRules subjects items n i) → T (itemRules more anew n i)
+  item-kept : (n : ℕ) (i : ItemRow) → T (itemRules subjects items n i) → T (itemRules more later n i)
   item-kept n i t = search (and-i, and-l, and-r, none-or-list-kept) depth 12
 
-  line-kept : (l : LineRow) → T (lineRules subjects items l) → T (lineRules more anew l)
+  line-kept : (l : LineRow) → T (lineRules subjects items l) → T (lineRules more later l)
   line-kept l t = search (and-i, and-l, and-r) depth 12
 
 -- A good row: its numbers fit their fields and it holds its rules.
@@ -123,11 +133,11 @@ module _ (t : Tables) where
   abbrev pub GoodLine : LineRow → Type 0
   GoodLine l = Fits (lineFormat (widthIn t)) l × T (lineRules (t .subjects) (t .items) l)
 
-  -- the row of item i
+  -- x is good as the row of item i
   abbrev pub GoodItem : ℕ → ItemRow → Type 0
   GoodItem i x = Fits itemFormat x × T (itemRules (t .subjects) (t .items) i x)
 
--- One table anew.
+-- The rows of one table replaced.
 
 module _ (t : Tables) (w : WellFormed t) where
   grant-rows : SortedRows grantKey (GoodGrant t) (t .capacities .grants) (t .grants)
@@ -152,9 +162,9 @@ module _ (t : Tables) (w : WellFormed t) where
         sorted = lines-ascending t (w .lines-hold);
       }
 
-  grants-anew : (rows : List GrantRow) → SortedRows grantKey (GoodGrant t) (t .capacities .grants) rows → WellFormed (withGrants t rows)
+  grants-replaced : (rows : List GrantRow) → SortedRows grantKey (GoodGrant t) (t .capacities .grants) rows → WellFormed (withGrants t rows)
   unfolding blockOf subjectsHold itemsHold linesHold
-  grants-anew rows new =
+  grants-replaced rows new =
       record {
         custodian-there = w .custodian-there;
         subjects-capacity = w .subjects-capacity;
@@ -177,14 +187,14 @@ module _ (t : Tables) (w : WellFormed t) where
       → T (isThere (find grantKey (grantKey g) (t .grants)) || ltb (length (t .grants)) (t .capacities .grants))
       → WellFormed (withGrants t (put grantKey g (t .grants)))
   grant-put g good free =
-      grants-anew (put grantKey g (t .grants)) (rows-put grantKey (GoodGrant t) (t .capacities .grants) (t .grants) grant-rows g good free)
+      grants-replaced (put grantKey g (t .grants)) (rows-put grantKey (GoodGrant t) (t .capacities .grants) (t .grants) grant-rows g good free)
 
   grant-cut : (k : List ℕ) → WellFormed (withGrants t (cut grantKey k (t .grants)))
-  grant-cut k = grants-anew (cut grantKey k (t .grants)) (rows-cut grantKey (GoodGrant t) (t .capacities .grants) (t .grants) grant-rows k)
+  grant-cut k = grants-replaced (cut grantKey k (t .grants)) (rows-cut grantKey (GoodGrant t) (t .capacities .grants) (t .grants) grant-rows k)
 
-  lines-anew : (rows : List LineRow) → SortedRows lineKey (GoodLine t) (t .capacities .lines) rows → WellFormed (withLines t rows)
+  lines-replaced : (rows : List LineRow) → SortedRows lineKey (GoodLine t) (t .capacities .lines) rows → WellFormed (withLines t rows)
   unfolding blockOf subjectsHold itemsHold grantsHold
-  lines-anew rows new =
+  lines-replaced rows new =
       record {
         custodian-there = w .custodian-there;
         subjects-capacity = w .subjects-capacity;
@@ -207,13 +217,13 @@ module _ (t : Tables) (w : WellFormed t) where
       → T (isThere (find lineKey (lineKey l) (t .lines)) || ltb (length (t .lines)) (t .capacities .lines))
       → WellFormed (withLines t (put lineKey l (t .lines)))
   line-put l good free =
-      lines-anew (put lineKey l (t .lines)) (rows-put lineKey (GoodLine t) (t .capacities .lines) (t .lines) line-rows l good free)
+      lines-replaced (put lineKey l (t .lines)) (rows-put lineKey (GoodLine t) (t .capacities .lines) (t .lines) line-rows l good free)
 
   line-cut : (k : List ℕ) → WellFormed (withLines t (cut lineKey k (t .lines)))
-  line-cut k = lines-anew (cut lineKey k (t .lines)) (rows-cut lineKey (GoodLine t) (t .capacities .lines) (t .lines) line-rows k)
+  line-cut k = lines-replaced (cut lineKey k (t .lines)) (rows-cut lineKey (GoodLine t) (t .capacities .lines) (t .lines) line-rows k)
 
-  -- the new items may be held to their rules by the old ones: an access list stays one
-  items-anew : (rows : List ItemRow)
+  -- the rules of the new items may be asked against the old ones, since an access list stays one
+  items-replaced : (rows : List ItemRow)
       → length (t .items) ≤ length rows
       → length rows ≤ t .capacities .items
       → ((i : ℕ) → T (itemUsed (t .items) i) → itemIn rows i .flags ≡ itemIn (t .items) i .flags)
@@ -221,7 +231,7 @@ module _ (t : Tables) (w : WellFormed t) where
       → T (everyNumbered (λ n. itemRules (t .subjects) (t .items) (suc n)) rows)
       → WellFormed (withItems t rows)
   unfolding blockOf subjectsHold itemsHold grantsHold
-  items-anew rows more enough same fit rules =
+  items-replaced rows more enough same fit rules =
       let lists : (a : ℕ) → T (isList (t .items) a) → T (isList rows a) = list-kept (t .items) rows more same in
       record {
         custodian-there = w .custodian-there;
@@ -252,23 +262,23 @@ module _ (t : Tables) (w : WellFormed t) where
       → WellFormed (withItems t (t .items ++ r ∷ []))
   unfolding itemsHold
   item-more r enough good =
-      items-anew (t .items ++ r ∷ [])
+      items-replaced (t .items ++ r ∷ [])
       (rw length-append (omega arith))
       (rw length-append (omega arith))
       (λ i u. ap (λ (x : ItemRow). x .flags) (item-same (t .items) r i u))
       (All-append (Fits itemFormat) (t .items) (r ∷ []) (w .items-fit) (good .0, tt))
       (every-append (λ n. itemRules (t .subjects) (t .items) (suc n)) (t .items) r (w .items-hold) (good .1))
 
-  -- an item anew, its flags as they were
-  item-anew : (i : ℕ) (r : ItemRow)
+  -- the row of one item replaced and its flags kept
+  item-replaced : (i : ℕ) (r : ItemRow)
       → T (itemUsed (t .items) i)
       → r .flags ≡ itemIn (t .items) i .flags
       → GoodItem t i r
       → WellFormed (withItems t (setItem (t .items) i r))
   unfolding itemsHold
-  item-anew zero r used flags good = absurd used
-  item-anew (suc n) r used flags good =
-      items-anew (set (t .items) n r)
+  item-replaced zero r used flags good = absurd used
+  item-replaced (suc n) r used flags good =
+      items-replaced (set (t .items) n r)
       (rw length-set (omega arith))
       (rw length-set (w .items-capacity))
       (λ i u. same i (eq-or-ne i (suc n)))
@@ -288,7 +298,7 @@ module _ (t : Tables) (w : WellFormed t) where
         every-at (λ k. itemRules (t .subjects) (t .items) (suc k)) (t .items) noItem (w .items-hold) n there,
       )
 
--- One subject more. The old rows' rules read rows below their own numbers only, and these are as they were.
+-- One subject more. The rules of an old subject's row read only rows with lower numbers, and these are kept.
 module _ (old : List SubjectRow) (r : SubjectRow) where
   subject-kept : (w n : ℕ) (x : SubjectRow) → n < length old → T (subjectRules w old n x) → T (subjectRules w (old ++ r ∷ []) n x)
   subject-kept w zero x h t = t
@@ -301,7 +311,13 @@ module _ (old : List SubjectRow) (r : SubjectRow) where
   grant-kept g t =
       let used : T (subjectUsed old (g .domain .0)) = search (and-l, and-r) in
       let tree : T (inTree (parentIn old) (g .grantor .0) (g .domain .0)) = search (and-l, and-r) in
-      search (and-i, and-l, and-r, subject-used old r, rw (← old-tree-same old r (g .grantor .0) (g .domain .0) (omega (arith, ltb→lt))) at tree) depth 12
+      search (
+        and-i,
+        and-l,
+        and-r,
+        subject-used old r,
+        rw (← old-tree-same old r (g .grantor .0) (g .domain .0) (omega (arith, ltb→lt))) at tree,
+      ) depth 12
 
   new-rules : (w n : ℕ)
       → 1 ≤ n
@@ -322,7 +338,7 @@ module _ (t : Tables) (w : WellFormed t) where
       let rules = custodian-rules in
       eqb→eq (privilegesIn (t .subjects) custodian) (everything (widthIn t)) (search (and-l, and-r))
 
-  -- what define subject stores lies within the caller's privileges, and is no more than was given
+  -- the privileges of a new subject are within the caller's, and as a number they are at most the given ones
   new-privileges-within : (c v : ℕ) → v < 256 ^ widthIn t → T (within (newPrivileges t c v) (privilegesIn (t .subjects) c))
   new-privileges-within c v h = go (two (eqb c custodian))
     where
@@ -331,7 +347,8 @@ module _ (t : Tables) (w : WellFormed t) where
       go (inr e) = rw e (both-within v (privilegesIn (t .subjects) c))
 
   new-privileges-le : (c v : ℕ) → newPrivileges t c v ≤ v
-  new-privileges-le c v = elim (two (eqb c custodian)) [ inl e ↦ rw e (omega arith) | inr e ↦ rw e (and-le-l v (privilegesIn (t .subjects) c)) ]
+  new-privileges-le c v =
+      elim (two (eqb c custodian)) [ inl e ↦ rw e (omega arith) | inr e ↦ rw e (and-le-l v (privilegesIn (t .subjects) c)) ]
 
   subject-more : (r : SubjectRow)
       → length (t .subjects) < t .capacities .subjects
@@ -363,7 +380,8 @@ module _ (t : Tables) (w : WellFormed t) where
             (w .items-hold);
         lines-hold =
             lines-held (withSubjects t rows)
-            (All-map (line-kept (t .subjects) rows (t .items) (t .items) (subject-used (t .subjects) r) (λ a l. l)) (t .lines) (line-rules t (w .lines-hold)))
+            (All-map (line-kept (t .subjects) rows (t .items) (t .items) (subject-used (t .subjects) r) (λ a l. l)) (t .lines)
+            (line-rules t (w .lines-hold)))
             (lines-ascending t (w .lines-hold));
         grants-hold =
             grants-held (withSubjects t rows)
@@ -374,14 +392,18 @@ module _ (t : Tables) (w : WellFormed t) where
       rows : List SubjectRow
       rows = t .subjects ++ r ∷ []
 
-      kept : (n : ℕ) (x : SubjectRow) → n < length (t .subjects) → T (subjectRules (widthIn t) (t .subjects) n x) → T (subjectRules (widthIn t) rows n x)
+      kept : (n : ℕ) (x : SubjectRow)
+          → n < length (t .subjects)
+          → T (subjectRules (widthIn t) (t .subjects) n x)
+          → T (subjectRules (widthIn t) rows n x)
       kept n x h u = subject-kept (t .subjects) r (widthIn t) n x h u
 
       inside : T (within (r .privileges) (privilegesIn rows (r .creator .0)))
       inside = rw (privileges-same (t .subjects) r (r .creator .0) creator) privileges
 
--- The eight calls. What was asked hands over the new row's rules and the room for it; that its numbers fit comes from the call's numbers and from
--- the old rows. `search` finds each answer among those of the call's questions.
+-- The eight calls. The call's questions, all answered yes, say that the new row holds its rules and that the table stays within
+-- its capacity. The row's numbers fit their fields because the call's numbers and those of the old rows do. `search` finds each
+-- answer among those of the call's questions.
 pub well-formed-after : (t : Tables) (c : Change) → Handed c → WellFormed t → Passed (questions t c) → WellFormed (after t c)
 unfolding questions after
 well-formed-after t (defineSubject c r p v) h w q =
@@ -399,8 +421,8 @@ well-formed-after t (createItem c r a f) h w q = item-more t w (itemRow c a f) (
 well-formed-after t (bind c i a) h w q =
     let there : T (itemUsed (t .items) i) = search q in
     let old : GoodItem t i (itemIn (t .items) i) = item-good t w i there in
-    item-anew t w i (withList (itemIn (t .items) i) a) there refl (omega arith, search (and-i, and-l, and-r) depth 12)
+    item-replaced t w i (withList (itemIn (t .items) i) a) there refl (omega arith, search (and-i, and-l, and-r) depth 12)
 well-formed-after t (handOver c i o) h w q =
     let there : T (itemUsed (t .items) i) = search q in
     let old : GoodItem t i (itemIn (t .items) i) = item-good t w i there in
-    item-anew t w i (withOwner (itemIn (t .items) i) o) there refl (omega arith, search (and-i, and-l, and-r) depth 12)
+    item-replaced t w i (withOwner (itemIn (t .items) i) o) there refl (omega arith, search (and-i, and-l, and-r) depth 12)

@@ -1,4 +1,4 @@
--- What the questions say of where an accepted image's tables lie.
+-- How the tables of an accepted image are laid out: what its questions say of this.
 use mathlib.Core.List.{List}
 use mathlib.Core.Path.{_≡_, sym}
 use Prim.Native.Nat.{ℕ, _≤_}
@@ -6,7 +6,9 @@ use native.Mathlib.Omega.{arith}
 use lib.Dec.{T, leb, leb→le, eqb→eq}
 use lib.ListN.{length}
 use Rattle.model.specs.Lists.{zeros}
-use Rattle.model.specs.Image.{shortestImage, longestImage, widthOf, layoutOf, subjectFormat, grantFormat, lineFormat, itemFormat, headerSize, laidOut, unused, headerRules, tableRules, layoutRules, unusedRules}
+use Rattle.model.specs.Image.{shortestImage, longestImage, widthOf, layoutOf, subjectFormat}
+use Rattle.model.specs.Image.{grantFormat, lineFormat, itemFormat, headerSize, laidOut}
+use Rattle.model.specs.Image.{unused, headerRules, tableRules, layoutRules, unusedRules}
 use Rattle.model.specs.Questions.{imageQuestions, check}
 use Rattle.laws.specs.Tests.{yes-all, and-l, and-r}
 use Rattle.laws.specs.WellFormed.{Passed}
@@ -14,7 +16,7 @@ use Rattle.laws.specs.Rows.{grant-lawful, line-lawful, item-lawful}
 use Rattle.laws.specs.Blocks.{starts-before-end}
 use Rattle.laws.specs.Answers.{image-passed}
 
--- questions 1, 2 and 7
+-- what questions 1, 2 and 7 say
 pub record Laid (img : List ℕ) : Type 0 where
   pub long : shortestImage ≤ length img
   pub short : length img ≤ longestImage
@@ -54,7 +56,7 @@ laid img e =
       items-blank = blank .1 .1 .1 .0;
     }
 
--- Every table ends inside.
+-- Every table ends within the image.
 module _ (img : List ℕ) (facts : Laid img) where
   abbrev w : ℕ
   w = widthOf (layoutOf img)
@@ -68,8 +70,10 @@ module _ (img : List ℕ) (facts : Laid img) where
 
   pub grants-inside : layoutOf img .grants .end ≤ length img
   unfolding layoutOf
-  grants-inside = omega (arith, lines-inside, starts-before-end (lineFormat w) (line-lawful w) (layoutOf img .lines) img (facts .lines-laid-out))
+  grants-inside =
+      omega (arith, lines-inside, starts-before-end (lineFormat w) (line-lawful w) (layoutOf img .lines) img (facts .lines-laid-out))
 
   pub subjects-inside : layoutOf img .subjects .end ≤ length img
   unfolding layoutOf
-  subjects-inside = omega (arith, grants-inside, starts-before-end (grantFormat w) (grant-lawful w) (layoutOf img .grants) img (facts .grants-laid-out))
+  subjects-inside =
+      omega (arith, grants-inside, starts-before-end (grantFormat w) (grant-lawful w) (layoutOf img .grants) img (facts .grants-laid-out))

@@ -1,5 +1,6 @@
--- Theorems about the definitions of `model` alone, some of them in the form in which code comes to them. specs/Lib.antt of `model` has the definitions.
--- First laws of the words: tests, sorted tables, sets, trees, rows by number, questions.
+-- Theorems about the definitions of `model` alone; specs/Lib.antt of `model` lists the files with these definitions. Some
+-- theorems have the form in which a proof about code needs them.
+-- First the laws of the general definitions: tests, sorted tables, sets, trees, rows by number, questions.
 pub mod Tests
 pub mod Sorted
 pub mod Sets
@@ -9,15 +10,17 @@ pub mod WellFormed
 pub mod Answers
 pub mod Cases
 pub mod Opens
--- Then bytes and tables, over any width and any format: an accepted image is the bytes of its tables, fitting tables survive the trip.
+-- Then bytes and tables, for any width and any format: an accepted image is the bytes of its tables, and fitting tables are
+-- read back from their bytes.
 pub mod Fields
 pub mod Rows
 pub mod Blocks
 pub mod Laid
 pub mod Back
 pub mod There
--- Last the calls. Those that ask, return by return, as code answers them.
+-- Last the calls. For those that ask there is one law for each way in which the code returns.
 pub mod Asks
--- Those that write: each keeps the tables well-formed, from an accepted image leaves an accepted one, and return by return is what code comes to.
+-- Those that write keep the tables well-formed and leave an accepted image if they are handed one. For them too there is one
+-- law for each way in which the code returns.
 pub mod Kept
 pub mod Acts

@@ -1,4 +1,5 @@
--- Rows by number after one is added at the end or made anew: the other numbers have the rows that they had, and old subjects the trees.
+-- Rows by number, after a row is added at the end or replaced: the other numbers keep their rows, and the old subjects are in
+-- the same trees as before.
 use mathlib.Core.List.{List, [], _∷_, _++_}
 use mathlib.Core.Logic.{_≢_}
 use mathlib.Core.Path.{_≡_, refl, ap}
@@ -36,7 +37,7 @@ pub item-same : (old : List ItemRow) (r : ItemRow) (i : ℕ) → T (itemUsed old
 item-same old r zero u = refl
 item-same old r (suc n) u = List·getD-append old (r ∷ []) noItem n (ltb→lt n (length old) u)
 
--- item i anew
+-- the row of item i replaced
 pub length-set-item : (old : List ItemRow) (i : ℕ) (r : ItemRow) → length (setItem old i r) ≡ length old
 length-set-item old zero r = refl
 length-set-item old (suc n) r = length-set old n r

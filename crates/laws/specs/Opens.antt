@@ -1,4 +1,4 @@
--- Opening an image: how code comes to each case, and what each case says of the image.
+-- Opening an image: how code arrives at each case, and what each case says of the image.
 use mathlib.Core.Bool.{false≢true}
 use mathlib.Core.List.{List}
 use mathlib.Core.Path.{_≡_, refl}
@@ -22,12 +22,12 @@ module _ (img : List ℕ) where
   unfolding opened
   opened-yes lay e all = case-yes With Refused (check img) (layoutOf img) lay all e
 
-  -- the number of the case is that of the check
+  -- the number of the case is what the check answers
   pub opened-also : (o : Opened) → o ≡ opened img → (o ≡ opened img) × (refusalOf o ≡ check img)
   unfolding opened
   opened-also = case-number With Refused (check img) (layoutOf img) refusalOf refl refl
 
-  -- o is what the code was told, and which case it is
+  -- what each case says; o is the answer that the code has
   module _ (o : Opened) (is : o ≡ opened img) where
     pub refused-by : (n : ℕ) → o ≡ Refused n → (n ≡ check img) × (n ≡ 0 → ⊥)
     unfolding opened

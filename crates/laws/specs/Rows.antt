@@ -1,4 +1,4 @@
--- Rows of a table, for any format: a row by its number, rows to bytes and back. Each format's own laws are at the end.
+-- The rows of a table, for any format: a row by its index, and rows to bytes and back. The laws of each format are at the end.
 use mathlib.Core.Bool.{Bool, true, false, cond}
 use mathlib.Core.List.{List, [], _∷_, _++_, append-assoc}
 use mathlib.Core.Path.{_≡_, refl, sym, ap, _∙_}
@@ -11,12 +11,14 @@ use lib.ListN.{length, getD, take, drop, replicate, length-append, length-drop, 
 use lib.Seq.{drop-at, drop-drop, take-add, drop-cons, drop-length}
 use Rattle.model.specs.declared.Table.{Table}
 use Rattle.model.specs.Lists.{All, Bytes}
-use Rattle.model.specs.Image.{Format, size, firstRow, rowInBytes, rowsFrom, rowsIn, joined, fieldsAt, subjectFormat, grantFormat, lineFormat, itemFormat}
+use Rattle.model.specs.Image.{Format, size, firstRow, rowInBytes, rowsFrom, rowsIn, joined}
+use Rattle.model.specs.Image.{fieldsAt, subjectFormat, grantFormat, lineFormat, itemFormat}
 use Rattle.laws.specs.Tests.{All-append}
 use Rattle.laws.specs.WellFormed.{Fits}
 use Rattle.laws.specs.Fields.{fields-count, fields-fit, zeros-fit, fields-there, fields-back, row-length, row-bytes, bytes-drop}
 
--- What makes a format one: a row is its numbers, and numbers are those of their row.
+-- What a format must fulfil: a row has one number for each field and is the row made of its numbers, a row made of numbers has
+-- these numbers, and a row has at least one byte.
 pub record Lawful {A : Type 0} (f : Format A) : Type 0 where
   pub counted : (x : A) → length (f .numbers x) ≡ length (f .widths)
   pub there : (x : A) → f .row (f .numbers x) ≡ x
@@ -33,9 +35,10 @@ module _ {A : Type 0} (f : Format A) where
   row-from (suc n) s d zero h = rw (zero-mul (size f))
   row-from (suc n) s d (suc k) h =
       let further : size f + k * size f ≡ suc k * size f = rw (suc-mul k (size f)) (add-comm (size f) (k * size f)) in
-      row-from n (drop (size f) s) d k (le-of-suc-le-suc h) ∙ ap (firstRow f) (drop-drop (k * size f) (size f) s ∙ ap (λ (m : ℕ). drop m s) further)
+      row-from n (drop (size f) s) d k (le-of-suc-le-suc h)
+      ∙ ap (firstRow f) (drop-drop (k * size f) (size f) s ∙ ap (λ (m : ℕ). drop m s) further)
 
-  -- A table's rows by their number.
+  -- A table's rows by their index.
 
   pub rows-count : (t : Table) (img : List ℕ) → length (rowsIn f t img) ≡ t .used
   unfolding rowsIn
@@ -51,19 +54,21 @@ module _ {A : Type 0} (f : Format A) where
       let past : length (rowsIn f t img) ≤ k = rw (rows-count t img) h in
       List·getD-eq-default (rowsIn f t img) d past
 
-  -- the rows from the k-th on begin with it
+  -- the rows from index k on begin with the row at index k
   pub rows-next : (t : Table) (img : List ℕ) (d : A) (k : ℕ) (x : A) → k < t .used → x ≡ getD (rowsIn f t img) k d
       → drop k (rowsIn f t img) ≡ x ∷ drop (suc k) (rowsIn f t img)
   rows-next t img d k x h e =
       let there : k < length (rowsIn f t img) = rw (rows-count t img) h in
       drop-cons (rowsIn f t img) k d there ∙ ap (λ (y : A). y ∷ drop (suc k) (rowsIn f t img)) (sym e)
 
-  -- a whole row is that of its fields, and less than a row is the row of zeros
+  -- bytes of at least a row's length begin with the row of their fields; shorter ones give the row of zeros
   pub whole-row : (s : List ℕ) → size f ≤ length s → firstRow f s ≡ f .row (fieldsAt (f .widths) s 0)
-  whole-row s h = ap (λ (b : Bool). f .row (cond b (fieldsAt (f .widths) s 0) (replicate (length (f .widths)) 0))) (le-leb (size f) (length s) h)
+  whole-row s h =
+      ap (λ (b : Bool). f .row (cond b (fieldsAt (f .widths) s 0) (replicate (length (f .widths)) 0))) (le-leb (size f) (length s) h)
 
   pub short-row : (s : List ℕ) → length s < size f → firstRow f s ≡ f .row (replicate (length (f .widths)) 0)
-  short-row s h = ap (λ (b : Bool). f .row (cond b (fieldsAt (f .widths) s 0) (replicate (length (f .widths)) 0))) (lt-leb (size f) (length s) h)
+  short-row s h =
+      ap (λ (b : Bool). f .row (cond b (fieldsAt (f .widths) s 0) (replicate (length (f .widths)) 0))) (lt-leb (size f) (length s) h)
 
   -- Rows to bytes and back.
 
@@ -78,7 +83,8 @@ module _ {A : Type 0} (f : Format A) where
 
     pub joined-length : (xs : List A) → length (joined f xs) ≡ length xs * size f
     joined-length [] = rw (zero-mul (size f))
-    joined-length (x ∷ xs) = rw (length-append, row-long x, joined-length xs, suc-mul (length xs) (size f), add-comm (size f) (length xs * size f))
+    joined-length (x ∷ xs) =
+        rw (length-append, row-long x, joined-length xs, suc-mul (length xs) (size f), add-comm (size f) (length xs * size f))
 
     pub rows-there : (xs : List A) (z : List ℕ) → All (Fits f) xs → rowsFrom f (length xs) (joined f xs ++ z) ≡ xs
     rows-there [] z h = refl
@@ -108,7 +114,7 @@ module _ {A : Type 0} (f : Format A) where
           take-add (size f) (n * size f) s,
         )
 
-    -- What is read from bytes fits its fields.
+    -- The numbers of a row that is read from bytes fit their fields.
     row-fits : (s : List ℕ) → Bytes s → Fits f (firstRow f s)
     row-fits s b = either (leb (size f) (length s))
       where
@@ -123,7 +129,7 @@ module _ {A : Type 0} (f : Format A) where
       rows-fit n (drop (size f) s) (bytes-drop (size f) s b),
     )
 
--- The elements of a list, one by one, are the list.
+-- A list is the list of its elements, taken one by one.
 
 abbrev elements : ℕ → ℕ → List ℕ → List ℕ
 elements zero i vs = []
@@ -139,13 +145,37 @@ elements-all (suc n) i vs e =
     rw (elements-all n (suc i) vs next) (sym (drop-cons vs i 0 more))
 
 pub subject-lawful : (w : ℕ) → Lawful (subjectFormat w)
-subject-lawful w = record { counted = λ x. refl; there = λ x. refl; back = λ vs e. elements-all (length ((subjectFormat w) .widths)) 0 vs e; wide = omega arith }
+subject-lawful w =
+    record {
+      counted = λ x. refl;
+      there = λ x. refl;
+      back = λ vs e. elements-all (length ((subjectFormat w) .widths)) 0 vs e;
+      wide = omega arith;
+    }
 
 pub grant-lawful : (w : ℕ) → Lawful (grantFormat w)
-grant-lawful w = record { counted = λ x. refl; there = λ x. refl; back = λ vs e. elements-all (length ((grantFormat w) .widths)) 0 vs e; wide = omega arith }
+grant-lawful w =
+    record {
+      counted = λ x. refl;
+      there = λ x. refl;
+      back = λ vs e. elements-all (length ((grantFormat w) .widths)) 0 vs e;
+      wide = omega arith;
+    }
 
 pub line-lawful : (w : ℕ) → Lawful (lineFormat w)
-line-lawful w = record { counted = λ x. refl; there = λ x. refl; back = λ vs e. elements-all (length ((lineFormat w) .widths)) 0 vs e; wide = omega arith }
+line-lawful w =
+    record {
+      counted = λ x. refl;
+      there = λ x. refl;
+      back = λ vs e. elements-all (length ((lineFormat w) .widths)) 0 vs e;
+      wide = omega arith;
+    }
 
 pub item-lawful : Lawful itemFormat
-item-lawful = record { counted = λ x. refl; there = λ x. refl; back = λ vs e. elements-all (length (itemFormat .widths)) 0 vs e; wide = omega arith }
+item-lawful =
+    record {
+      counted = λ x. refl;
+      there = λ x. refl;
+      back = λ vs e. elements-all (length (itemFormat .widths)) 0 vs e;
+      wide = omega arith;
+    }

@@ -1,4 +1,4 @@
--- Laws of privilege sets: the positions of what is in either and in both, and what lies within what.
+-- Laws of privilege sets: the positions of the union and of the intersection, and which sets are within others.
 use mathlib.Core.Bool.{Bool, true, false, _&&_, _||_}
 use mathlib.Core.Path.{_≡_, refl, _∙_}
 use Prim.Native.Nat.{ℕ, zero, suc, _*_, _/_, _%_, _^_, _-_, _<_}
@@ -12,7 +12,7 @@ use lib.Pow.{pow-add}
 use Rattle.model.specs.WhoAndWhat.{everything, has, _∪_, _∩_, within}
 use Rattle.laws.specs.Tests.{true-T}
 
--- A digit is 0 or 1, so what two digits give is read off four cases.
+-- A binary digit is 0 or 1, so there are four cases for two digits.
 module _ (f : ℕ → ℕ → ℕ) (test : Bool → Bool → Bool)
     (at00 : eqb (f 0 0) 1 ≡ test false false) (at01 : eqb (f 0 1) 1 ≡ test false true)
     (at10 : eqb (f 1 0) 1 ≡ test true false) (at11 : eqb (f 1 1) 1 ≡ test true true) where
@@ -36,7 +36,7 @@ pub has-and : (n a b : ℕ) → has n (a ∩ b) ≡ (has n a && has n b)
 unfolding has
 has-and n a b = rw (and-shr a b n, and-mod (a / 2 ^ n) (b / 2 ^ n) 1) (by-digits _∩_ _&&_ refl refl refl refl (a / 2 ^ n) (b / 2 ^ n))
 
--- What is in both lies within the second: by the last digit, and by halves.
+-- The intersection is within the second set. The proof is by induction on the binary digits: the last one, then the others.
 pub and-twice : (a b : ℕ) → (a ∩ b) ∩ b ≡ a ∩ b
 and-twice = bin-ind (λ (a : ℕ). (b : ℕ) → (a ∩ b) ∩ b ≡ a ∩ b) (λ b. refl) step
   where
@@ -48,7 +48,7 @@ and-twice = bin-ind (λ (a : ℕ). (b : ℕ) → (a ∩ b) ∩ b ≡ a ∩ b) (�
 pub both-within : (a b : ℕ) → T (within (a ∩ b) b)
 both-within a b = true-T (within (a ∩ b) b) (eq-eqb ((a ∩ b) ∩ b) (a ∩ b) (and-twice a b))
 
--- A set of k positions lies within them all.
+-- A set of k positions is within the set of all k positions.
 pub and-all : (k v : ℕ) → v < 2 ^ k → v ∩ (2 ^ k - 1) ≡ v
 and-all k v h = and-mask v k ∙ mod-eq-of-lt h
 
@@ -62,6 +62,6 @@ within-everything w v h =
     let whole : v ∩ everything w ≡ v = rw (bytes-positions w) (and-all (8 * w) v (rw (bytes-positions w) at h)) in
     true-T (within v (everything w)) (eq-eqb (v ∩ everything w) v whole)
 
--- a position and a set that were told by callees
+-- the position and the set may be replaced by equal ones, as where callees answer them
 pub has-same : (n m a b : ℕ) (r : Bool) → n ≡ m → a ≡ b → r ≡ has n a → r ≡ has m b
 has-same n m a b r position set e = rw (← position, ← set) e

@@ -1,6 +1,7 @@
--- Laws of sorted tables, for any row type and key: the order of keys; what a search finds after a row is put or cut; the length, the order and
--- every row's facts afterwards; and the same as parts of the list before and from the sorted place on.
--- Every law about rows is by the three cases of `order`: the first row's key is lower than the one sought, equal to it, or higher.
+-- Laws of sorted tables, for any row type and key: the order of keys; what a search finds after a row is put or cut; the
+-- length, the order and the facts about every row afterwards; and the new table as the rows before the insertion index and
+-- those from it on. The laws about rows are proved by the three cases of `order`: the first row's key is lower than the one
+-- sought, equal to it, or higher.
 use mathlib.Core.Bool.{true, false, _&&_, _||_, cond, false≢true}
 use mathlib.Core.List.{List, [], _∷_, _++_}
 use mathlib.Core.Logic.{_⊎_, inl, inr, _≢_}
@@ -26,7 +27,7 @@ pub same-self : (k : List ℕ) → same k k ≡ true
 same-self [] = refl
 same-self (x ∷ xs) = rw (eq-eqb x x refl) (same-self xs)
 
--- One key and another: lower, equal or higher, and what the tests say then.
+-- A key is lower than another, equal to it or higher. Each case says what the tests answer.
 pub data Order (k l : List ℕ) : Type 0 where
   lower : before k l ≡ true → before l k ≡ false → same k l ≡ false → Order k l
   equal : k ≡ l → before k l ≡ false → same k l ≡ true → Order k l
@@ -52,7 +53,8 @@ order (x ∷ xs) (y ∷ ys) = go (lt-eq-gt x y) (order xs ys)
     go : (x < y) ⊎ ((x ≡ y) ⊎ (y < x)) → Order xs ys → Order (x ∷ xs) (y ∷ ys)
     go (inl h) o = Order.lower (rw (lt-ltb x y h)) (rw (le-ltb y x (omega arith), ne-eqb y x (omega arith))) (rw (ne-eqb x y (omega arith)))
     go (inr (inl h)) o = rw h (tails o)
-    go (inr (inr h)) o = Order.higher (rw (lt-ltb y x h)) (rw (le-ltb x y (omega arith), ne-eqb x y (omega arith))) (rw (ne-eqb x y (omega arith)))
+    go (inr (inr h)) o =
+        Order.higher (rw (lt-ltb y x h)) (rw (le-ltb x y (omega arith), ne-eqb x y (omega arith))) (rw (ne-eqb x y (omega arith)))
 
 pub same-or-not : (k l : List ℕ) → (k ≡ l) ⊎ (k ≢ l)
 same-or-not k l =
@@ -121,7 +123,7 @@ module _ {A : Type 0} (key : A → List ℕ) where
       let e : before (key x) (key y) ≡ true = T-true (before (key x) (key y)) (and-l (before (key x) (key y)) (ascending key (y ∷ ys)) t) in
       (e, above-lower (key x) (key y) ys e (ascending-above y ys (and-r (before (key x) (key y)) (ascending key (y ∷ ys)) t)))
 
-  -- Every row's facts.
+  -- Facts about every row.
 
   module _ (P : A → Type 0) where
     pub All-put : (r : A) (xs : List A) → P r → All P xs → All P (put key r xs)
@@ -144,7 +146,7 @@ module _ {A : Type 0} (key : A → List ℕ) where
           | higher e f g ↦ rw (f, g) a
         ]
 
-    -- a found row has the key and every row's facts
+    -- a found row has the key, and what holds of every row holds of it
     pub All-find : (k : List ℕ) (xs : List A) → All P xs → IfSome (λ r. P r × (key r ≡ k)) (find key k xs)
     unfolding find
     All-find k [] a = tt
@@ -164,7 +166,8 @@ module _ {A : Type 0} (key : A → List ℕ) where
       let a : Above (key x) xs = ascending-above x xs t in
       let s : T (ascending key xs) = ascending-tail x xs t in
       elim (order (key x) (key r)) [
-        | lower e f g ↦ rw e (ascending-cons x (put key r xs) (All-put (λ y. before (key x) (key y) ≡ true) r xs e a) (ascending-put r xs s))
+        | lower e f g ↦
+            rw e (ascending-cons x (put key r xs) (All-put (λ y. before (key x) (key y) ≡ true) r xs e a) (ascending-put r xs s))
         | equal e f g ↦ rw (f, g) (ascending-cons r xs (rw e at a) s)
         | higher e f g ↦ rw (f, g) (ascending-cons r (x ∷ xs) (e, above-lower (key r) (key x) xs e a) t)
       ]
@@ -220,7 +223,7 @@ module _ {A : Type 0} (key : A → List ℕ) where
         | higher e f g ↦ rw (f, g)
       ]
 
-  -- In an ascending table the search is the plain one: the first row with the key.
+  -- In an ascending table the search finds what a plain search finds: the first row with the key.
 
   abbrev pub plain : List ℕ → List A → Option A
   plain k [] = none
@@ -229,7 +232,11 @@ module _ {A : Type 0} (key : A → List ℕ) where
   plain-above : (k : List ℕ) (xs : List A) → Above k xs → plain k xs ≡ none
   plain-above k [] a = refl
   plain-above k (x ∷ xs) a =
-      elim (order (key x) k) [ lower e f g ↦ cc (a .0) | equal e f g ↦ cc (a .0, before-self k) | higher e f g ↦ rw g (plain-above k xs (a .1)) ]
+      elim (order (key x) k) [
+        | lower e f g ↦ cc (a .0)
+        | equal e f g ↦ cc (a .0, before-self k)
+        | higher e f g ↦ rw g (plain-above k xs (a .1))
+      ]
 
   pub find-plain : (k : List ℕ) (xs : List A) → T (ascending key xs) → find key k xs ≡ plain k xs
   unfolding find
@@ -241,13 +248,14 @@ module _ {A : Type 0} (key : A → List ℕ) where
         | higher e f g ↦ rw (f, g) (sym (plain-above k xs (above-lower k (key x) xs e (ascending-above x xs t))))
       ]
 
-  -- The sorted place. It is the number of rows with a lower key, and the row there is the one that is found.
+  -- The insertion index. It is the number of rows with a lower key, and a row that is found is the one at this index.
 
   select-above : (k : List ℕ) (xs : List A) → Above k xs → select (λ x. before (key x) k) xs ≡ []
   select-above k [] a = refl
   select-above k (x ∷ xs) a = rw (before-not-after k (key x) (a .0)) (select-above k xs (a .1))
 
-  pub index-counts : (k : List ℕ) (xs : List A) → T (ascending key xs) → insertionIndex key k xs ≡ length (select (λ x. before (key x) k) xs)
+  pub index-counts : (k : List ℕ) (xs : List A) → T (ascending key xs)
+      → insertionIndex key k xs ≡ length (select (λ x. before (key x) k) xs)
   unfolding insertionIndex
   index-counts k [] t = refl
   index-counts k (x ∷ xs) t =
@@ -263,9 +271,12 @@ module _ {A : Type 0} (key : A → List ℕ) where
   index-le k [] = omega arith
   index-le k (x ∷ xs) =
       let ih : insertionIndex key k xs ≤ length xs = index-le k xs in
-      elim (before (key x) k) as (λ b. cond b (suc (insertionIndex key k xs)) 0 ≤ suc (length xs)) [ true ↦ omega arith | false ↦ omega arith ]
+      elim (before (key x) k) as (λ b. cond b (suc (insertionIndex key k xs)) 0 ≤ suc (length xs)) [
+        | true ↦ omega arith
+        | false ↦ omega arith
+      ]
 
-  -- a found row is the one at the place
+  -- a found row is the one at the insertion index
   pub found-index : (k : List ℕ) (xs : List A) (r : A) → find key k xs ≡ some r → insertionIndex key k xs < length xs
   unfolding find insertionIndex
   found-index k [] r h = absurd (Option·none-ne-some r h)
@@ -286,10 +297,11 @@ module _ {A : Type 0} (key : A → List ℕ) where
         | higher e f g ↦ cc (rw (f, g) at h)
       ]
 
-  -- so the search is a look at the place
+  -- so a search needs to look only at the row at the insertion index
   pub find-by-index : (k : List ℕ) (xs : List A) (d : A)
       → find key k xs
-      ≡ cond (ltb (insertionIndex key k xs) (length xs) && same (key (getD xs (insertionIndex key k xs) d)) k) (some (getD xs (insertionIndex key k xs) d)) none
+      ≡ cond (ltb (insertionIndex key k xs) (length xs) && same (key (getD xs (insertionIndex key k xs) d)) k)
+      (some (getD xs (insertionIndex key k xs) d)) none
   unfolding find insertionIndex
   find-by-index k [] d = refl
   find-by-index k (x ∷ xs) d =
@@ -299,7 +311,7 @@ module _ {A : Type 0} (key : A → List ℕ) where
         | higher e f g ↦ rw (f, lt-ltb 0 (suc (length xs)) (omega arith), g)
       ]
 
-  -- Putting and cutting at the place.
+  -- Putting and cutting at the insertion index.
 
   pub put-new : (r : A) (xs : List A) → find key (key r) xs ≡ none
       → put key r xs ≡ take (insertionIndex key (key r) xs) xs ++ r ∷ drop (insertionIndex key (key r) xs) xs
@@ -350,7 +362,8 @@ module _ {A : Type 0} (key : A → List ℕ) where
   length-put-new r xs h = rw (put-new r xs h) (simp (length-append, length-take, length-drop) (omega (arith, index-le (key r) xs)))
 
   pub length-put-over : (r : A) (xs : List A) (y : A) → find key (key r) xs ≡ some y → length (put key r xs) ≡ length xs
-  length-put-over r xs y h = rw (put-over r xs y h) (simp (length-append, length-take, length-drop) (omega (arith, found-index (key r) xs y h)))
+  length-put-over r xs y h =
+      rw (put-over r xs y h) (simp (length-append, length-take, length-drop) (omega (arith, found-index (key r) xs y h)))
 
   pub length-cut : (k : List ℕ) (xs : List A) (y : A) → find key k xs ≡ some y → suc (length (cut key k xs)) ≡ length xs
   length-cut k xs y h = rw (cut-found k xs y h) (simp (length-append, length-take, length-drop) (omega (arith, found-index k xs y h)))
@@ -362,7 +375,7 @@ module _ {A : Type 0} (key : A → List ℕ) where
       go none e = rw (cut-none k xs e) (omega arith)
       go (some y) e = omega (arith, length-cut k xs y e)
 
-  -- where the row is there already or one is free, there is room for the row put
+  -- if the table has a row with the key already or has a free row, it is within its capacity after the put
   pub put-fits : (r : A) (xs : List A) (cap : ℕ)
       → length xs ≤ cap
       → T (isThere (find key (key r) xs) || ltb (length xs) cap)

@@ -1,4 +1,4 @@
--- What passed tests say: of a list of tests, of every row, of a list's facts.
+-- What it means that tests are passed: one test, a list of tests, a test of every row. And laws of facts about every row.
 use mathlib.Core.Bool.{Bool, true, false, _&&_, _||_, not, and-true}
 use mathlib.Core.List.{List, [], _∷_, _++_}
 use mathlib.Core.Logic.{_⊎_, _≢_}
@@ -11,7 +11,7 @@ use lib.Dec.{T, eqb, ltb, leb}
 use lib.ListN.{length, getD, set}
 use Rattle.model.specs.Lists.{allOf, every, everyNumbered, All}
 
--- two facts
+-- two facts as one
 infixr 20 _and_
 abbrev pub _and_ : {P Q : Type 0} → P → Q → P × Q
 p and q = (p, q)
@@ -49,7 +49,7 @@ pub or-cases : (a b : Bool) → T (a || b) → T a ⊎ T b
 or-cases true b t = _⊎_.inl tt
 or-cases false b t = _⊎_.inr t
 
--- Tests asked one after the other, as code does. r is what is answered, t what a callee said.
+-- Tests asked one after the other, as code does. r is what the code answers, t what a callee answered.
 
 pub and-no : (a b : Bool) → a ≡ false → false ≡ (a && b)
 and-no a b e = rw e
@@ -104,7 +104,7 @@ lt-eq-gt m n = go (ltb m n) refl (eqb m n) refl
     go false e true f = _⊎_.inr (_⊎_.inl (eqb-true m n f))
     go false e false f = let l : n ≤ m = ltb-false m n e in let d : m ≢ n = eqb-false m n f in _⊎_.inr (_⊎_.inr (omega arith))
 
--- A list of tests, each of them a fact.
+-- All tests of a list are passed exactly when each of them is.
 
 pub yes-all : (bs : List Bool) → T (allOf bs) → All T bs
 yes-all [] t = tt
@@ -115,7 +115,7 @@ all-yes [] f = tt
 all-yes (b ∷ bs) f = and-i b (allOf bs) (f .0) (all-yes bs (f .1))
 
 module _ {A : Type 0} where
-  -- every row passes a test, or each row does
+  -- `every` and `All` say the same: each row passes the test
   pub every-All : (test : A → Bool) (xs : List A) → T (every test xs) → All (λ x. T (test x)) xs
   every-All test [] t = tt
   every-All test (x ∷ xs) t = (and-l (test x) (every test xs) t, every-All test xs (and-r (test x) (every test xs) t))
@@ -124,19 +124,24 @@ module _ {A : Type 0} where
   All-every test [] a = tt
   All-every test (x ∷ xs) a = and-i (test x) (every test xs) (a .0) (All-every test xs (a .1))
 
-  -- a test that sees the number: each row by its number
-  pub every-at : (test : ℕ → A → Bool) (xs : List A) (d : A) → T (everyNumbered test xs) → (k : ℕ) → k < length xs → T (test k (getD xs k d))
+  -- a test that is handed the index: every row passes it exactly when the row at each index does
+  pub every-at : (test : ℕ → A → Bool) (xs : List A) (d : A)
+      → T (everyNumbered test xs)
+      → (k : ℕ) → k < length xs → T (test k (getD xs k d))
   every-at test [] d t k h = absurd (not-suc-le-zero h)
   every-at test (x ∷ xs) d t zero h = and-l (test 0 x) (everyNumbered (λ n. test (suc n)) xs) t
   every-at test (x ∷ xs) d t (suc k) h =
       every-at (λ n. test (suc n)) xs d (and-r (test 0 x) (everyNumbered (λ n. test (suc n)) xs) t) k (le-of-suc-le-suc h)
 
-  pub every-by : (test : ℕ → A → Bool) (xs : List A) (d : A) → ((k : ℕ) → k < length xs → T (test k (getD xs k d))) → T (everyNumbered test xs)
+  pub every-by : (test : ℕ → A → Bool) (xs : List A) (d : A)
+      → ((k : ℕ) → k < length xs → T (test k (getD xs k d)))
+      → T (everyNumbered test xs)
   every-by test [] d f = tt
   every-by test (x ∷ xs) d f =
-      and-i (test 0 x) (everyNumbered (λ n. test (suc n)) xs) (f zero (omega arith)) (every-by (λ n. test (suc n)) xs d (λ k h. f (suc k) (omega arith)))
+      and-i (test 0 x) (everyNumbered (λ n. test (suc n)) xs) (f zero (omega arith))
+      (every-by (λ n. test (suc n)) xs d (λ k h. f (suc k) (omega arith)))
 
-  -- every row passes another test where it passes the first
+  -- if each row that passes one test passes another, and every row passes the first, every row passes the other
   pub every-map : (test more : ℕ → A → Bool) (xs : List A)
       → ((k : ℕ) (x : A) → k < length xs → T (test k x) → T (more k x))
       → T (everyNumbered test xs)
@@ -145,9 +150,10 @@ module _ {A : Type 0} where
   every-map test more (x ∷ xs) f t =
       and-i (more 0 x) (everyNumbered (λ n. more (suc n)) xs)
       (f zero x (omega arith) (and-l (test 0 x) (everyNumbered (λ n. test (suc n)) xs) t))
-      (every-map (λ n. test (suc n)) (λ n. more (suc n)) xs (λ k y h. f (suc k) y (omega arith)) (and-r (test 0 x) (everyNumbered (λ n. test (suc n)) xs) t))
+      (every-map (λ n. test (suc n)) (λ n. more (suc n)) xs (λ k y h. f (suc k) y (omega arith))
+      (and-r (test 0 x) (everyNumbered (λ n. test (suc n)) xs) t))
 
-  -- one row more, and one row anew
+  -- one row more, and one row replaced
   pub every-append : (test : ℕ → A → Bool) (xs : List A) (r : A)
       → T (everyNumbered test xs)
       → T (test (length xs) r)
@@ -179,7 +185,7 @@ module _ {A : Type 0} where
   All-both P Q [] p q = tt
   All-both P Q (x ∷ xs) p q = ((p .0, q .0), All-both P Q xs (p .1) (q .1))
 
-  -- of each row: what all rows have, it has
+  -- of each row: what holds of all rows holds of it
   pub All-self : {B : Type 0} (P : B → A → Type 0) (xs : List A) → All (λ x. (b : B) → All (P b) xs → P b x) xs
   All-self P [] = tt
   All-self P (x ∷ xs) = (λ b a. a .0, All-map (λ y f b a. f b (a .1)) xs (All-self P xs))

@@ -1,4 +1,5 @@
--- Fitting tables survive the trip through bytes. The bytes of well-formed tables are an accepted image.
+-- Fitting tables are read back from their bytes, and the bytes of well-formed tables are an accepted image. The header is read
+-- back first. It says where each block starts, and the law about one block then gives each table.
 use mathlib.Core.List.{List, [], _∷_, _++_}
 use mathlib.Core.Path.{_≡_, refl, sym, ap, _∙_}
 use Prim.Native.Nat.{ℕ, _+_, _*_, _^_, _<_, _≤_}
@@ -10,7 +11,10 @@ use lib.ListN.{length, getD, drop, replicate, length-append}
 use lib.Seq.{drop-at, drop-drop}
 use Rattle.model.specs.declared.Layout.{Layout}
 use Rattle.model.specs.Lists.{All, Bytes, allOf}
-use Rattle.model.specs.Image.{shortestImage, longestImage, Tables, Format, Block, size, widthIn, layoutOf, tablesBy, tables, subjectFormat, grantFormat, lineFormat, itemFormat, headerWidths, headerSize, fieldsAt, rowBytes, headerOf, bodyOf, blocks, blockOf, encode, headerRules, tableRules, layoutRules, unusedRules}
+use Rattle.model.specs.Image.{shortestImage, longestImage, Tables, Format, Block, size, widthIn, layoutOf}
+use Rattle.model.specs.Image.{tablesBy, tables, subjectFormat, grantFormat, lineFormat, itemFormat}
+use Rattle.model.specs.Image.{headerWidths, headerSize, fieldsAt, rowBytes, headerOf, bodyOf, blocks}
+use Rattle.model.specs.Image.{blockOf, encode, headerRules, tableRules, layoutRules, unusedRules}
 use Rattle.model.specs.Questions.{imageQuestions, check, Accepted}
 use Rattle.laws.specs.Tests.{_and_, true-T, and-i, all-yes, All-append}
 use Rattle.laws.specs.WellFormed.{Fitting, WellFormed, fitting, Passed, Fit, extents}
@@ -19,7 +23,7 @@ use Rattle.laws.specs.Rows.{Lawful, subject-lawful, grant-lawful, line-l
 use Rattle.laws.specs.Blocks.{Holds, holds-from, block-used, block-extent, block-length, block-bytes}
 use Rattle.laws.specs.Answers.{first-passed}
 
--- Blocks in a row: their header has numbers that fit, and their bytes are as long as they say.
+-- Blocks one after the other: the numbers in their header fit its fields, and their bytes are as many as their extents say.
 
 pub record Sized (b : Block) : Type 0 where
   pub used-few : b .used ≤ b .extent
@@ -54,7 +58,7 @@ sized f law cap xs few =
       are-bytes = block-bytes f cap xs;
     }
 
--- The layout that the nine numbers of a header are.
+-- The layout that the nine numbers of a header give.
 abbrev pub layoutFrom : List ℕ → Layout
 layoutFrom h =
     record {
@@ -68,11 +72,13 @@ layout-from : (img : List ℕ) → layoutOf img ≡ layoutFrom (fieldsAt headerW
 unfolding layoutOf
 layout-from img = refl
 
--- what stands behind a block
-next-block : (img : List ℕ) (at : ℕ) (b : Block) (rest : List ℕ) → Sized b → drop at img ≡ b .bytes ++ rest → drop (at + b .extent) img ≡ rest
+-- the bytes behind a block
+next-block : (img : List ℕ) (at : ℕ) (b : Block) (rest : List ℕ) → Sized b → drop at img ≡ b .bytes ++ rest
+    → drop (at + b .extent) img ≡ rest
 next-block img at b rest s e = sym (drop-drop (b .extent) at img) ∙ ap (drop (b .extent)) e ∙ drop-at (b .bytes) rest (b .extent) (s .long)
 
--- The bytes of fitting tables. The layout and the tables are read from them again, and they hold the rules that are not about rows.
+-- The bytes of fitting tables. The layout and the tables are read back from them, and the bytes hold the rules that are not
+-- about rows.
 module _ (t : Tables) (good : Fitting t) where
   abbrev w : ℕ
   w = widthIn t
@@ -104,7 +110,7 @@ module _ (t : Tables) (good : Fitting t) where
   pub layout-there : layoutOf (encode t) ≡ lay
   layout-there = layout-from (encode t) ∙ ap layoutFrom header-there
 
-  -- Where each block stands.
+  -- Where each block starts.
 
   abbrev blocks-from : ℕ → List Block
   blocks-from k = drop k (blocks t)
@@ -154,7 +160,13 @@ module _ (t : Tables) (good : Fitting t) where
         grants = grants-hold .rows-are i;
         lines = lines-hold .rows-are i;
         items = items-hold .rows-are i;
-        capacities = record { subjects = subjects-hold .capacity-is i; grants = grants-hold .capacity-is i; lines = lines-hold .capacity-is i; items = items-hold .capacity-is i };
+        capacities =
+            record {
+              subjects = subjects-hold .capacity-is i;
+              grants = grants-hold .capacity-is i;
+              lines = lines-hold .capacity-is i;
+              items = items-hold .capacity-is i;
+            };
       }
 
   pub tables-there : tables (encode t) ≡ t
@@ -165,12 +177,15 @@ module _ (t : Tables) (good : Fitting t) where
 
   encode-length : length (encode t) ≡ headerSize + extents (blocks t)
   unfolding encode front
-  encode-length = rw (length-append front (bodyOf (blocks t)), body-length (blocks t) sizes) (ap (λ (n : ℕ). n + extents (blocks t)) front-length)
+  encode-length =
+      rw (length-append front (bodyOf (blocks t)), body-length (blocks t) sizes)
+      (ap (λ (n : ℕ). n + extents (blocks t)) front-length)
 
   header-right : T (allOf (headerRules lay (encode t)))
   unfolding headerRules
   header-right =
-      all-yes (headerRules lay (encode t)) (true-T _ (eq-eqb (lay .items .end) (length (encode t)) (total-end ∙ sym encode-length)) and tt and tt)
+      all-yes (headerRules lay (encode t))
+      (true-T _ (eq-eqb (lay .items .end) (length (encode t)) (total-end ∙ sym encode-length)) and tt and tt)
 
   tables-right : 1 ≤ length (t .subjects) → T (allOf (tableRules lay))
   unfolding tableRules
@@ -200,7 +215,7 @@ module _ (t : Tables) (good : Fitting t) where
       (row-bytes headerWidths (headerOf headerSize (blocks t)))
       (body-bytes (blocks t) sizes)
 
--- The bytes of well-formed tables pass every question of the check.
+-- For the bytes of well-formed tables, every question of the check is answered yes.
 module _ (t : Tables) (good : WellFormed t) where
   fits : Fitting t
   fits = fitting good

@@ -1,5 +1,6 @@
--- Laws of climbing, for any step `up`: of being in a tree, and of the group search. Any count of steps from the number's own on gives the same, so
--- both have an equation without a count; and both read the step only up to the number.
+-- Laws of climbing, for any step `up`: being in a tree, and the group search. A climb from s gives the same for every number of
+-- allowed steps that is at least s. So both have an equation that does not count steps. And both use `up` only at s and at
+-- lower numbers.
 use mathlib.Core.Bool.{false, _&&_, _||_, cond, or-false}
 use mathlib.Core.List.{List}
 use mathlib.Core.Logic.{inl, inr}
@@ -46,7 +47,7 @@ module _ (up : ℕ → ℕ) where
       rw (ne-eqb s h (omega arith))
       (elim (two (ltb (up s) s)) [ inl e ↦ rw e (climbs-below h n (up s) (omega (arith, ltb-true (up s) s e))) | inr e ↦ rw e ])
 
-  -- it has no number lower than h
+  -- the tree of h has no number lower than h
   pub tree-below : (h s : ℕ) → s < h → inTree up h s ≡ false
   unfolding inTree
   tree-below h s l = climbs-below h s s l
@@ -74,7 +75,7 @@ module _ (up : ℕ → ℕ) where
         | inr e ↦ rw e
       ]
 
--- Two steps that agree below n give the same below n.
+-- Two steps that agree below n give the same for every climb from below n.
 module _ (up vp : ℕ → ℕ) (n : ℕ) (agree : (s : ℕ) → s < n → up s ≡ vp s) where
   climbs-same : (h m s : ℕ) → s < n → climbs m up h s ≡ climbs m vp h s
   unfolding climbs

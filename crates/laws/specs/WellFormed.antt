@@ -1,15 +1,16 @@
--- Fitting tables: there is room for their rows, their bytes are no more than an image may have, and every number fits its field.
--- Well-formed tables hold besides what questions 2 to 6 ask of tables. An accepted image has such tables, and the bytes of such tables are
--- an accepted image.
+-- Fitting tables: their rows are within the capacities, their bytes are no more than an image may have, and every number fits
+-- its field. Well-formed tables also fulfil what questions 2 to 6 ask of tables. An accepted image has well-formed tables, and
+-- the bytes of well-formed tables are an accepted image.
 use mathlib.Core.List.{List, [], _∷_}
 use Prim.Native.Nat.{ℕ, _+_, _^_, _<_, _≤_}
 use lib.ListN.{length}
 use lib.Dec.{T}
 use Rattle.model.specs.Lists.{All}
-use Rattle.model.specs.Image.{longestImage, Format, Tables, Block, widthIn, subjectFormat, grantFormat, lineFormat, itemFormat, headerSize, blocks, subjectsHold, itemsHold, linesHold, grantsHold}
+use Rattle.model.specs.Image.{longestImage, Format, Tables, Block, widthIn, subjectFormat, grantFormat, lineFormat}
+use Rattle.model.specs.Image.{itemFormat, headerSize, blocks, subjectsHold, itemsHold, linesHold, grantsHold}
 use Rattle.model.specs.Questions.{Question}
 
--- each number is below 256 to the power of its field's bytes
+-- each number fits its field: in a field of w bytes it is below 256 ^ w
 abbrev pub Fit : List ℕ → List ℕ → Type 0
 Fit [] vs = Unit
 Fit (w ∷ ws) [] = ⊥
@@ -18,7 +19,7 @@ Fit (w ∷ ws) (v ∷ vs) = (v < 256 ^ w) × Fit ws vs
 abbrev pub Fits : {A : Type 0} → Format A → A → Type 0
 Fits f x = Fit (f .widths) (f .numbers x)
 
--- the bytes of blocks
+-- how many bytes blocks have together
 abbrev pub extents : List Block → ℕ
 extents [] = 0
 extents (b ∷ bs) = b .extent + extents bs

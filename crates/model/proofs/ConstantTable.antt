@@ -1,11 +1,12 @@
--- A constant table's rule, proved at all of its entries at once: the table is compared with the one that the rule makes, by computation.
+-- The rule of a constant table, proved for all of its entries at once. The rule makes a table of its own, and the two tables
+-- are compared by computation. Then the rule holds at each entry.
 use mathlib.Core.List.{List, [], _∷_}
 use mathlib.Core.Path.{_≡_}
 use Prim.Native.Nat.{ℕ, zero, suc, _+_, _<_}
 use native.Mathlib.Nat.{add-zero, zero-add, add-suc, suc-add, le-of-suc-le-suc, not-suc-le-zero}
 use lib.ListN.{getD}
 
--- what the rule says of i and the n - 1 numbers after it
+-- what the rule gives for i and the n - 1 numbers after it
 abbrev pub madeFrom : (ℕ → ℕ) → ℕ → ℕ → List ℕ
 madeFrom rule i zero = []
 madeFrom rule i (suc n) = rule i ∷ madeFrom rule (suc i) n

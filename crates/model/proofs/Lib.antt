@@ -1,2 +1,3 @@
+-- Laws that several proofs of this crate use.
 pub mod ConstantTable
 pub mod Positions

@@ -1,4 +1,5 @@
--- A position is in a set exactly where its mask meets the set: a mask cuts out one binary digit.
+-- A position is in a set exactly when its mask and the set have a bit in common. The argument: the mask cuts out one binary
+-- digit of the set. Past the last position, the mask is empty and the digit is 0.
 use mathlib.Core.Bool.{Bool, true, false, not, cond}
 use mathlib.Core.Path.{_≡_, refl}
 use Prim.Native.Nat.{ℕ, zero, suc, _+_, _-_, _*_, _/_, _%_, _^_, _<_, _≤_}
@@ -30,7 +31,7 @@ meets n p m h e = rw e (go (ltb n 32) refl)
     go true q = rw (cut p n) (digit (p / 2 ^ n % 2) (2 ^ n) (mod-lt (p / 2 ^ n) (lit< tt)) (pow-pos n))
     go false q = rw (and-zero-r, div-eq-of-lt (lt-of-lt-of-le h (pow-mono (ltb-false n 32 q))))
 
--- past the last call that question 15 asks a position of
+-- a number past the last call that needs a position
 pub no-position : (n : ℕ) → 4 ≤ n → noPosition ≡ neededPosition n
 no-position zero h = absurd (omega arith)
 no-position (suc zero) h = absurd (omega arith)

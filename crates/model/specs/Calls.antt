@@ -1,4 +1,5 @@
--- Document 01, "The calls": what each answers and what it leaves, where it is not refused. Numbers are those of the call's arguments, in its order.
+-- Document 01, "The calls": what each call answers, and the tables that it leaves, if it is not refused.
+-- The arguments of a call are plain numbers here, in the order in which the call takes them.
 use mathlib.Core.Bool.{Bool, _&&_, not, cond}
 use mathlib.Core.List.{List, [], _∷_, _++_}
 use Prim.Native.Nat.{ℕ, zero, suc, _<_, _^_}
@@ -11,7 +12,8 @@ use Rattle.model.specs.declared.ItemRow.{ItemRow}
 use Rattle.model.specs.Lists.{select, All}
 use Rattle.model.specs.Sorted.{put, cut}
 use Rattle.model.specs.WhoAndWhat.{custodian, editList, has, _∩_}
-use Rattle.model.specs.Image.{Tables, subjectRow, grantRow, lineRow, itemRow, withList, withOwner, grantKey, lineKey, privilegesIn, itemIn, subjectUsed}
+use Rattle.model.specs.Image.{Tables, subjectRow, grantRow, lineRow, itemRow, withList}
+use Rattle.model.specs.Image.{withOwner, grantKey, lineKey, privilegesIn, itemIn, subjectUsed}
 use Rattle.model.specs.Permission.{operationSet, permissionSet}
 
 -- The calls that only ask and whose result is decided.
@@ -43,7 +45,7 @@ callerOf (createItem c r a f) = c
 callerOf (bind c i a) = c
 callerOf (handOver c i o) = c
 
--- the numbers and the privilege sets that a call is handed
+-- the numbers that a call is handed, without its privilege set
 abbrev pub numbersOf : Change → List ℕ
 numbersOf (defineSubject c r p v) = c ∷ r ∷ p ∷ []
 numbersOf (setGrant c s r d v) = c ∷ s ∷ r ∷ d ∷ []
@@ -54,6 +56,7 @@ numbersOf (createItem c r a f) = c ∷ r ∷ a ∷ f ∷ []
 numbersOf (bind c i a) = c ∷ i ∷ a ∷ []
 numbersOf (handOver c i o) = c ∷ i ∷ o ∷ []
 
+-- the privilege set that a call is handed, if it is handed one
 abbrev pub setsOf : Change → List ℕ
 setsOf (defineSubject c r p v) = v ∷ []
 setsOf (setGrant c s r d v) = v ∷ []
@@ -64,18 +67,18 @@ setsOf (createItem c r a f) = []
 setsOf (bind c i a) = []
 setsOf (handOver c i o) = []
 
--- Every number handed over is one of 32 bits.
+-- Every number and privilege set that the call is handed has at most 32 bits.
 abbrev pub Handed : Change → Type 0
 Handed c = All (λ v. v < 2 ^ 32) (numbersOf c) × All (λ v. v < 2 ^ 32) (setsOf c)
 
--- Lines of a list: its rows, and the number of rows that stand before them in the table.
+-- Lines of a list: its rows, and the rows of lists with a lower number, which stand before them in the table.
 abbrev pub rowsOf : ℕ → List LineRow → List LineRow
 rowsOf a lines = select (λ l. eqb (l .list .0) a) lines
 
 abbrev pub rowsBefore : ℕ → List LineRow → List LineRow
 rowsBefore a lines = select (λ l. ltb (l .list .0) a) lines
 
--- Editor search: s may be named as an editor of list a.
+-- Editor search: the search may name s as an editor of list a.
 abbrev pub isEditor : Tables → ℕ → ℕ → Bool
 isEditor t s a = subjectUsed (t .subjects) s && not (eqb s custodian) && has editList (permissionSet t s 0 a)
 
@@ -86,7 +89,7 @@ askResult t (operationSetOf s r) = operationSet t s r
 askResult t (permissionSetOf s r i) = permissionSet t s r i
 askResult t (listCount a) = length (rowsOf a (t .lines))
 
--- One table anew, the others as they are.
+-- The tables with the rows of one of them replaced and all else kept.
 
 abbrev pub withSubjects : Tables → List SubjectRow → Tables
 withSubjects t rows = record { subjects = rows; grants = t .grants; lines = t .lines; items = t .items; capacities = t .capacities }
@@ -100,16 +103,17 @@ withLines t rows = record { subjects = t .subjects; grants = t .grants; lines = 
 abbrev pub withItems : Tables → List ItemRow → Tables
 withItems t rows = record { subjects = t .subjects; grants = t .grants; lines = t .lines; items = rows; capacities = t .capacities }
 
--- the items with item i anew
+-- the items with the row of item i replaced; 0 is no item, so it changes nothing
 abbrev pub setItem : List ItemRow → ℕ → ItemRow → List ItemRow
 setItem rows zero r = rows
 setItem rows (suc n) r = set rows n r
 
--- Define subject stores the privileges as given for the custodian, otherwise what the caller's own row also has.
+-- The privileges of a new subject. If the custodian defines it, they are the set v that the call was handed. If another
+-- caller c defines it, they are the privileges that both v and c's own row have.
 abbrev pub newPrivileges : Tables → ℕ → ℕ → ℕ
 newPrivileges t c v = cond (eqb c custodian) v (v ∩ privilegesIn (t .subjects) c)
 
--- The tables after a call.
+-- The tables after a call that is not refused.
 unfoldable pub after : Tables → Change → Tables
 after t (defineSubject c r p v) = withSubjects t (t .subjects ++ subjectRow p (newPrivileges t c v) c ∷ [])
 after t (setGrant c s r d v) = withGrants t (put grantKey (grantRow s r c d v) (t .grants))
@@ -120,7 +124,7 @@ after t (createItem c r a f) = withItems t (t .items ++ itemRow c a f ∷ [])
 after t (bind c i a) = withItems t (setItem (t .items) i (withList (itemIn (t .items) i) a))
 after t (handOver c i o) = withItems t (setItem (t .items) i (withOwner (itemIn (t .items) i) o))
 
--- Its result: the new subject's number and the new item's, and 0 where no result is named.
+-- The result of that call: the number of the new subject or of the new item; for every other call, 0.
 unfoldable pub changeResult : Tables → Change → ℕ
 changeResult t (defineSubject c r p v) = length (t .subjects)
 changeResult t (setGrant c s r d v) = 0

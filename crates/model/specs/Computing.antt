@@ -1,4 +1,5 @@
--- One name for the definitions that a call on written-out tables computes with. A theorem by computation says `unfolding computing`.
+-- One name for the definitions that are unfolded when a call is computed on tables written out in full. A theorem that is
+-- proved by computation says `unfolding computing`.
 use Rattle.model.specs.Sorted.{find, put, cut, ascending}
 use Rattle.model.specs.Tree.{climbs, inTree}
 use Rattle.model.specs.WhoAndWhat.{has}

@@ -1,4 +1,4 @@
--- Document 01, "The image": bytes to tables, tables to bytes, and the rules of the rows.
+-- Document 01, "The image": bytes to tables, tables to bytes, and the rules of the rows and of the layout.
 use mathlib.Core.Bool.{Bool, false, _&&_, _||_, not, cond}
 use mathlib.Core.List.{List, [], _∷_, _++_}
 use Prim.Native.Nat.{ℕ, zero, suc, _+_, _-_, _*_, _/_, _%_, _^_}
@@ -15,7 +15,7 @@ use Rattle.model.specs.Sorted.{ascending}
 use Rattle.model.specs.Tree.{inTree}
 use Rattle.model.specs.WhoAndWhat.{privilegeWidth, everything, has, within}
 
--- The bytes of the shortest and of the longest image.
+-- How many bytes the shortest and the longest image have.
 
 abbrev pub shortestImage : ℕ
 shortestImage = 36
@@ -23,7 +23,7 @@ shortestImage = 36
 abbrev pub longestImage : ℕ
 longestImage = 65536
 
--- The fields. A number of k bytes, little-endian; a field that runs past the end is 0.
+-- The fields. A field is a number in k bytes, the lowest byte first. A field that runs past the end of the bytes reads as 0.
 
 abbrev pub value : List ℕ → ℕ
 value [] = 0
@@ -36,7 +36,7 @@ bytesOf (suc k) v = v % 256 ∷ bytesOf k (v / 256)
 unfoldable pub fieldAt : ℕ → List ℕ → ℕ → ℕ
 fieldAt k s at = cond (leb (at + k) (length s)) (value (take k (drop at s))) 0
 
--- A row is its fields, one after the other. ws are the fields' bytes.
+-- A row is its fields, one after the other. ws says how many bytes each field has.
 
 abbrev pub fieldsAt : List ℕ → List ℕ → ℕ → List ℕ
 fieldsAt [] s at = []
@@ -47,7 +47,8 @@ rowBytes [] vs = []
 rowBytes (w ∷ ws) [] = []
 rowBytes (w ∷ ws) (v ∷ vs) = bytesOf w v ++ rowBytes ws vs
 
--- How a row of one table is written: the bytes of its fields, the numbers in them, and the row with these numbers.
+-- How the rows of one table are written: how many bytes each field has, the numbers in a row's fields, and the row with
+-- given numbers.
 pub record Format (A : Type 0) : Type 0 where
   pub widths : List ℕ
   pub numbers : A → List ℕ
@@ -57,10 +58,11 @@ module _ {A : Type 0} (f : Format A) where
   abbrev pub size : ℕ
   size = sum (f .widths)
 
-  -- the row that s begins with, and a row's bytes; less than a row is the row of zeros
+  -- the row that s begins with; if s is shorter than a row, the row of zeros
   abbrev pub firstRow : List ℕ → A
   firstRow s = f .row (cond (leb size (length s)) (fieldsAt (f .widths) s 0) (replicate (length (f .widths)) 0))
 
+  -- the bytes of a row
   abbrev pub rowInBytes : A → List ℕ
   rowInBytes x = rowBytes (f .widths) (f .numbers x)
 
@@ -69,15 +71,22 @@ subjectRow parent privileges creator = record { parent = record { 0 = parent }; 
 
 abbrev pub grantRow : ℕ → ℕ → ℕ → ℕ → ℕ → GrantRow
 grantRow receiver role grantor domain privileges =
-    record { receiver = record { 0 = receiver }; role = record { 0 = role }; grantor = record { 0 = grantor }; domain = record { 0 = domain }; privileges = privileges }
+    record {
+      receiver = record { 0 = receiver };
+      role = record { 0 = role };
+      grantor = record { 0 = grantor };
+      domain = record { 0 = domain };
+      privileges = privileges;
+    }
 
 abbrev pub lineRow : ℕ → ℕ → ℕ → ℕ → LineRow
-lineRow list kind subject privileges = record { list = record { 0 = list }; kind = kind; subject = record { 0 = subject }; privileges = privileges }
+lineRow list kind subject privileges =
+    record { list = record { 0 = list }; kind = kind; subject = record { 0 = subject }; privileges = privileges }
 
 abbrev pub itemRow : ℕ → ℕ → ℕ → ItemRow
 itemRow owner list flags = record { owner = record { 0 = owner }; list = record { 0 = list }; flags = flags }
 
--- an item with another list, and with another owner
+-- an item's row with another list, and with another owner
 
 abbrev pub withList : ItemRow → ℕ → ItemRow
 withList i a = itemRow (i .owner .0) a (i .flags)
@@ -85,7 +94,7 @@ withList i a = itemRow (i .owner .0) a (i .flags)
 abbrev pub withOwner : ItemRow → ℕ → ItemRow
 withOwner i o = itemRow o (i .list .0) (i .flags)
 
--- the rows of zeros
+-- the rows whose fields are all 0
 
 abbrev pub noSubject : SubjectRow
 noSubject = subjectRow 0 0 0
@@ -99,7 +108,7 @@ noLine = lineRow 0 0 0 0
 abbrev pub noItem : ItemRow
 noItem = itemRow 0 0 0
 
--- w is the bytes of a privilege field
+-- The formats of the four tables. w is how many bytes a privilege field has.
 abbrev pub subjectFormat : ℕ → Format SubjectRow
 subjectFormat w =
     record {
@@ -139,7 +148,7 @@ pub record Capacities : Type 0 where
   pub lines : ℕ
   pub items : ℕ
 
--- The four tables: the rows in use, and how many rows there is room for.
+-- The four tables: their rows in use, and their capacities.
 pub record Tables : Type 0 where
   pub subjects : List SubjectRow
   pub grants : List GrantRow
@@ -147,7 +156,8 @@ pub record Tables : Type 0 where
   pub items : List ItemRow
   pub capacities : Capacities
 
--- Bytes to tables. The header: used rows and offset of subjects, then of grants, lines and items, then the total length.
+-- Bytes to tables. The header has nine fields. For each table, in the order subjects, grants, lines, items, there are two: how
+-- many rows are in use, and the offset at which the table starts. The ninth field records the length of the whole image.
 
 abbrev pub headerWidths : List ℕ
 headerWidths = replicate 9 4
@@ -155,10 +165,11 @@ headerWidths = replicate 9 4
 abbrev pub headerSize : ℕ
 headerSize = sum headerWidths
 
--- the header's fields, numbered from 0
+-- field n of the header, counted from 0
 abbrev pub headerField : List ℕ → ℕ → ℕ
 headerField img n = fieldAt 4 img (n * 4)
 
+-- the layout that the header gives: a table ends where the next one starts, and the last one at the recorded length
 unfoldable pub layoutOf : List ℕ → Layout
 layoutOf img =
     record {
@@ -168,14 +179,14 @@ layoutOf img =
       items = record { used = headerField img 6; start = headerField img 7; end = headerField img 8 };
     }
 
--- the bytes of a privilege field, in an image and in its tables
+-- how many bytes a privilege field has, in an image and in its tables
 abbrev pub widthOf : Layout → ℕ
 widthOf lay = privilegeWidth
 
 abbrev pub widthIn : Tables → ℕ
 widthIn t = privilegeWidth
 
--- the rows of n bytes that a table has room for
+-- the capacity of a table whose rows have n bytes
 abbrev pub capacityBy : ℕ → Table → ℕ
 capacityBy n t = (t .end - t .start) / n
 
@@ -185,7 +196,7 @@ module _ {A : Type 0} (f : Format A) where
   rowsFrom zero s = []
   rowsFrom (suc n) s = firstRow f s ∷ rowsFrom n (drop (size f) s)
 
-  -- the rows of a table that are in use, and its capacity
+  -- a table's rows in use, and its capacity
   unfoldable pub rowsIn : Table → List ℕ → List A
   rowsIn t img = rowsFrom (t .used) (drop (t .start) img)
 
@@ -214,7 +225,7 @@ tablesBy lay img =
 abbrev pub tables : List ℕ → Tables
 tables img = tablesBy (layoutOf img) img
 
--- Tables to bytes. A table's block: its rows in use, then zeros up to its capacity.
+-- Tables to bytes. A table's block is its rows in use, then zeros up to its capacity. `extent` is how many bytes it has.
 
 pub record Block : Type 0 where
   pub used : ℕ
@@ -242,7 +253,8 @@ blocks t =
     ∷ blockOf itemFormat (t .capacities .items) (t .items)
     ∷ []
 
--- the header of blocks that start at a byte: used rows and offset of each, then the total length
+-- the numbers in the header of blocks, if the first block starts at offset `at`: the rows in use and the offset of each block,
+-- then the offset at which the last one ends
 abbrev pub headerOf : ℕ → List Block → List ℕ
 headerOf at [] = at ∷ []
 headerOf at (b ∷ bs) = b .used ∷ at ∷ headerOf (at + b .extent) bs
@@ -254,7 +266,7 @@ bodyOf (b ∷ bs) = b .bytes ++ bodyOf bs
 unfoldable pub encode : Tables → List ℕ
 encode t = rowBytes headerWidths (headerOf headerSize (blocks t)) ++ bodyOf (blocks t)
 
--- Rows by number. Item n is row n - 1, and 0 is no item.
+-- Rows by number. A subject's number is its index. Item n has index n - 1, and 0 is no item.
 
 abbrev pub subjectIn : List SubjectRow → ℕ → SubjectRow
 subjectIn rows s = getD rows s noSubject
@@ -276,7 +288,7 @@ abbrev pub itemUsed : List ItemRow → ℕ → Bool
 itemUsed rows zero = false
 itemUsed rows (suc n) = ltb n (length rows)
 
--- The flag bits of an item: this item is an access list; it is locked. There are no others.
+-- The flag bits of an item. Bit 0 says that it is an access list, bit 1 that it is locked. There are no others.
 
 abbrev pub listFlag : ℕ
 listFlag = 0
@@ -302,7 +314,7 @@ noneOrList rows a = eqb a 0 || isList rows a
 
 -- The rules of the rows.
 
--- row 0 is the custodian's
+-- the row with index 0 is the custodian's
 abbrev pub custodianRules : ℕ → SubjectRow → Bool
 custodianRules w s = allOf (eqb (s .parent .0) 0 ∷ eqb (s .privileges) (everything w) ∷ eqb (s .creator .0) 0 ∷ [])
 
@@ -321,7 +333,7 @@ grantRules subjects g =
     ∷ inTree (parentIn subjects) (g .grantor .0) (g .domain .0)
     ∷ [])
 
--- the kinds of a line: the subject itself, the group of the subject, the item's owner, everyone
+-- the kinds of a line: it is for one subject, for a subject's group, for the owner of the item or for everyone
 abbrev pub itselfKind : ℕ
 itselfKind = 0
 
@@ -334,12 +346,13 @@ ownerKind = 2
 abbrev pub everyoneKind : ℕ
 everyoneKind = 3
 
--- there is no kind above; the owner's and everyone's have subject 0
+-- there is no higher kind; a line for the owner or for everyone has subject 0
 abbrev pub kindFits : ℕ → ℕ → Bool
 kindFits kind s = leb kind everyoneKind && (leb kind groupKind || eqb s 0)
 
 abbrev pub lineRules : List SubjectRow → List ItemRow → LineRow → Bool
-lineRules subjects items l = allOf (isList items (l .list .0) ∷ kindFits (l .kind) (l .subject .0) ∷ subjectUsed subjects (l .subject .0) ∷ [])
+lineRules subjects items l =
+    allOf (isList items (l .list .0) ∷ kindFits (l .kind) (l .subject .0) ∷ subjectUsed subjects (l .subject .0) ∷ [])
 
 abbrev pub itemRules : List SubjectRow → List ItemRow → ℕ → ItemRow → Bool
 itemRules subjects items n i = allOf (subjectUsed subjects (i .owner .0) ∷ noneOrList items (i .list .0) ∷ flagsFit (i .flags) ∷ [])
@@ -364,7 +377,8 @@ grantsHold t = every (grantRules (t .subjects)) (t .grants) && ascending grantKe
 
 -- The rules of the layout.
 
--- a table whose rows have n bytes does not end before it starts, is whole rows, and has room for those in use
+-- a table whose rows have n bytes is laid out: it does not end before it starts, its bytes are whole rows, and its rows in
+-- use are within its capacity
 abbrev pub laidOutBy : ℕ → Table → Bool
 laidOutBy n t = allOf (leb (t .start) (t .end) ∷ eqb ((t .end - t .start) % n) 0 ∷ leb (t .used) (capacityBy n t) ∷ [])
 
@@ -372,15 +386,15 @@ module _ {A : Type 0} (f : Format A) where
   abbrev pub laidOut : Table → Bool
   laidOut t = laidOutBy (size f) t
 
-  -- the bytes of its rows that are not in use
+  -- the bytes of a table's free rows
   abbrev pub unused : Table → List ℕ → List ℕ
   unused t img = take (t .end - (t .start + t .used * size f)) (drop (t .start + t .used * size f) img)
 
--- the header's own: the recorded total is the length, and the first table begins behind the header
+-- the rules of the header: the length that it records is the image's, and the first table starts right behind it
 unfoldable pub headerRules : Layout → List ℕ → List Bool
 headerRules lay img = eqb (lay .items .end) (length img) ∷ eqb (lay .subjects .start) headerSize ∷ []
 
--- those of the tables, and a subject is in use
+-- the rules of the tables: each is laid out, and at least one subject is in use
 unfoldable pub tableRules : Layout → List Bool
 tableRules lay =
     laidOut (subjectFormat (widthOf lay)) (lay .subjects)
@@ -393,7 +407,7 @@ tableRules lay =
 unfoldable pub layoutRules : Layout → List ℕ → List Bool
 layoutRules lay img = allOf (headerRules lay img) ∷ allOf (tableRules lay) ∷ []
 
--- unused rows are zero
+-- the free rows are all zeros
 unfoldable pub unusedRules : Layout → List ℕ → List Bool
 unusedRules lay img =
     zeros (unused (subjectFormat (widthOf lay)) (lay .subjects) img)

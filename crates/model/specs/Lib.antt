@@ -1,6 +1,7 @@
--- The definitions of the library. The first three files are words that several sections use; then one file for each section of
--- document 01, in its order, but for the sequences of demand 3, whose definitions stand with their theorem in the crate `strangers`. A call's contract cites
--- these and nothing else. Laws about them are in the crate `laws`, but for the twelve sets of the sample workshop, which are proved here.
+-- The definitions of the library. The first three files are general: several sections of document 01 use them. Then there is
+-- one file for each section, in the document's order. One section is not here: the sequences of demand 3 are defined beside
+-- their theorem, in the crate `strangers`. A call's contract cites these definitions and nothing else.
+-- The laws about them are in the crate `laws`. Only the twelve sets of the sample workshop are proved here.
 pub mod Lists
 pub mod Sorted
 pub mod Tree

@@ -1,4 +1,4 @@
--- Words about lists that several sections of document 01 use.
+-- General definitions about lists, which several sections of document 01 use.
 use mathlib.Core.Bool.{Bool, true, false, _&&_, not, cond}
 use mathlib.Core.List.{List, [], _∷_}
 use mathlib.Core.Option.{Option, none, some}
@@ -20,12 +20,12 @@ module _ {A : Type 0} where
   every test [] = true
   every test (x ∷ xs) = test x && every test xs
 
-  -- every row passes a test that sees the row's number too, counted from 0
+  -- every row passes a test that is handed the row's index too
   abbrev pub everyNumbered : (ℕ → A → Bool) → List A → Bool
   everyNumbered test [] = true
   everyNumbered test (x ∷ xs) = test 0 x && everyNumbered (λ n. test (suc n)) xs
 
-  -- some row passes it
+  -- some row passes such a test
   abbrev pub someNumbered : (ℕ → A → Bool) → List A → Bool
   someNumbered test xs = not (everyNumbered (λ n x. not (test n x)) xs)
 
@@ -39,17 +39,17 @@ module _ {A : Type 0} where
   All P [] = Unit
   All P (x ∷ xs) = P x × All P xs
 
-  -- the first of two that is there
+  -- the first row, if it is there; otherwise the second
   abbrev pub orElse : Option A → Option A → Option A
   orElse none b = b
   orElse (some a) b = some a
 
-  -- what a test says of a row that may be missing: of a missing one, no
+  -- a row that may be missing is there and passes a test
   abbrev pub ifThere : (A → Bool) → Option A → Bool
   ifThere test none = false
   ifThere test (some a) = test a
 
-  -- whether it is not missing
+  -- a row that may be missing is there
   abbrev pub isThere : Option A → Bool
   isThere = ifThere (λ a. true)
 
@@ -57,6 +57,6 @@ module _ {A : Type 0} where
 abbrev pub zeros : List ℕ → Bool
 zeros = every (λ b. eqb b 0)
 
--- each is a byte
+-- every number is a byte
 abbrev pub Bytes : List ℕ → Type 0
 Bytes = All (λ b. b < 256)

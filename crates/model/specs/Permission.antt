@@ -1,4 +1,4 @@
--- Document 01, "How a permission is found".
+-- Document 01, "How a permission is found": the lines' part, the grant of a claimed role, and the sets that these make.
 use mathlib.Core.Bool.{cond}
 use mathlib.Core.List.{List, [], _∷_}
 use mathlib.Core.Option.{Option, none, some}
@@ -15,14 +15,15 @@ use Rattle.model.specs.Lists.{orElse}
 use Rattle.model.specs.Sorted.{find}
 use Rattle.model.specs.Tree.{inTree}
 use Rattle.model.specs.WhoAndWhat.{custodian, everything, _∪_, _∩_}
-use Rattle.model.specs.Image.{Tables, widthIn, itselfKind, groupKind, ownerKind, everyoneKind, grantKey, lineKey, parentIn, privilegesIn, itemIn}
+use Rattle.model.specs.Image.{Tables, widthIn, itselfKind, groupKind, ownerKind, everyoneKind}
+use Rattle.model.specs.Image.{grantKey, lineKey, parentIn, privilegesIn, itemIn}
 
--- The line of list a for a kind and a subject. No list means no lines.
+-- The line of list a for a kind and a subject. List 0 is no list and has no lines.
 abbrev pub lineIn : List LineRow → ℕ → ℕ → ℕ → Option LineRow
 lineIn lines zero kind s = none
 lineIn lines (suc a) kind s = find lineKey (suc a ∷ kind ∷ s ∷ []) lines
 
--- what a search of the code found
+-- what a search in the code answers, as a line that may be missing
 abbrev pub foundLine : SoughtLine → Option LineRow
 foundLine (Line l) = some l
 foundLine NoLine = none
@@ -31,37 +32,43 @@ abbrev pub lineSet : Option LineRow → ℕ
 lineSet none = 0
 lineSet (some l) = l .privileges
 
--- The group search: a group line of the parent, then of the parent's parent, and upward until the first hit; past the custodian there is
--- nothing. A climb from s has at most s steps; the first argument counts them.
+-- The group search. It climbs from s to its parent, on to that one's parent, and so on, and answers the first group line that
+-- it meets. The custodian is the last one that it looks at. A climb from s has at most s steps: the first argument is how many
+-- are still allowed.
 unfoldable pub groupWithin : ℕ → (ℕ → ℕ) → List LineRow → ℕ → ℕ → Option LineRow
 groupWithin zero up lines s a = none
-groupWithin (suc n) up lines s a = cond (ltb (up s) s) (orElse (lineIn lines a groupKind (up s)) (groupWithin n up lines (up s) a)) none
+groupWithin (suc n) up lines s a =
+    cond (ltb (up s) s) (orElse (lineIn lines a groupKind (up s)) (groupWithin n up lines (up s) a)) none
 
 unfoldable pub groupLine : (ℕ → ℕ) → List LineRow → ℕ → ℕ → Option LineRow
 groupLine up lines s a = groupWithin s up lines s a
 
--- The owner with an owner line: that line. A non-owner with an own line: that line, even if it holds 0. o is the item's owner.
+-- The line that takes precedence over group lines, if there is one. For the item's owner o it is the owner line. For any
+-- other subject it is the subject's own line, even one without privileges.
 unfoldable pub directLine : List LineRow → ℕ → ℕ → ℕ → Option LineRow
 directLine lines s o a = cond (eqb s o) (lineIn lines a ownerKind 0) (lineIn lines a itselfKind s)
 
--- The lines' part for subject s on an item with owner o and list a.
+-- The lines' part of subject s on an item with owner o and list a. The custodian's is `all`. Anyone else has the privileges of
+-- the direct line or, if there is none, of the group line, and in addition those of the line for everyone.
 unfoldable pub partOf : ℕ → (ℕ → ℕ) → List LineRow → ℕ → ℕ → ℕ → ℕ
 partOf all up lines s o a =
     cond (eqb s custodian) all
-    (lineSet (orElse (directLine lines s o a) (groupLine up lines s a)) ∪ lineSet (lineIn lines a everyoneKind 0))
+    (lineSet (orElse (directLine lines s o a) (groupLine up lines s a))
+    ∪ lineSet (lineIn lines a everyoneKind 0))
 
--- on an item whose row is x, and on item i
+-- the same on an item whose row is x, and on item i
 abbrev pub partOn : Tables → ℕ → ItemRow → ℕ
 partOn t s x = partOf (everything (widthIn t)) (parentIn (t .subjects)) (t .lines) s (x .owner .0) (x .list .0)
 
 abbrev pub linesPart : Tables → ℕ → ℕ → ℕ
 linesPart t s i = partOn t s (itemIn (t .items) i)
 
--- Under role r, the grant is the row for (s, r). Role 0 means no role.
+-- The grant to subject s under role r, if there is one. Role 0 is no role and has no grant.
 abbrev pub grantIn : List GrantRow → ℕ → ℕ → Option GrantRow
 grantIn grants s zero = none
 grantIn grants s (suc r) = find grantKey (s ∷ suc r ∷ []) grants
 
+-- what a search in the code answers, as a grant that may be missing
 abbrev pub foundGrant : SoughtGrant → Option GrantRow
 foundGrant (Grant g) = some g
 foundGrant NoGrant = none
@@ -69,13 +76,13 @@ foundGrant NoGrant = none
 abbrev pub grantOf : Tables → ℕ → ℕ → Option GrantRow
 grantOf t s r = grantIn (t .grants) s r
 
--- What a grant adds to the operation set: its privileges that its grantor also has.
+-- What a grant adds to the operation set: those of its privileges that the grantor's own row has too.
 abbrev pub lentOperations : Tables → Option GrantRow → ℕ
 lentOperations t none = 0
 lentOperations t (some g) = g .privileges ∩ privilegesIn (t .subjects) (g .grantor .0)
 
--- What it adds to the object set of an item, whose row is x: where the item's owner is in the domain's tree, its privileges that are in the grantor's
--- lines' part.
+-- What a grant adds to the object set on an item whose row is x. If the item's owner is in the tree of the grant's domain, it
+-- adds those of its privileges that the grantor's lines' part on the item has too. Otherwise it adds nothing.
 abbrev pub lentOn : Tables → Option GrantRow → ItemRow → ℕ
 lentOn t none x = 0
 lentOn t (some g) x = cond (inTree (parentIn (t .subjects)) (g .domain .0) (x .owner .0)) (g .privileges ∩ partOn t (g .grantor .0) x) 0
@@ -83,7 +90,7 @@ lentOn t (some g) x = cond (inTree (parentIn (t .subjects)) (g .domain .0) (x .o
 abbrev pub lentPart : Tables → Option GrantRow → ℕ → ℕ
 lentPart t g i = lentOn t g (itemIn (t .items) i)
 
--- The sets of s under a grant that it holds or might hold, and under the role that it claims.
+-- The sets of s: first under a grant that may be missing, then under the role that s claims.
 
 unfoldable pub operationUnder : Tables → ℕ → Option GrantRow → ℕ
 operationUnder t s g = privilegesIn (t .subjects) s ∪ lentOperations t g

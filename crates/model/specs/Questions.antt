@@ -1,5 +1,5 @@
--- Document 01, "Questions before each call": the questions of each call as one list, in the paper's order, and the first no. Then what a call
--- answers and leaves, for any list of bytes and any numbers.
+-- Document 01, "Questions before each call": the questions of each call as one list, in the document's order, and the first
+-- one answered no. Then what a call answers and leaves, for any list of bytes and any numbers.
 use mathlib.Core.Bool.{Bool, _&&_, _||_, not, cond}
 use mathlib.Core.List.{List, [], _∷_, _++_}
 use mathlib.Core.Option.{Option}
@@ -17,7 +17,10 @@ use Rattle.model.specs.Lists.{allOf, someNumbered, ifThere, isThere, Byt
 use Rattle.model.specs.Sorted.{find}
 use Rattle.model.specs.Tree.{inTree}
 use Rattle.model.specs.WhoAndWhat.{custodian, defineCall, createCall, setLineCall, removeLineCall, neededPosition, has}
-use Rattle.model.specs.Image.{shortestImage, longestImage, Tables, layoutOf, tablesBy, tables, encode, widthOf, size, lineFormat, grantKey, lineKey, parentIn, subjectUsed, itemIn, itemUsed, isList, isLocked, noneOrList, flagsFit, kindFits, layoutRules, subjectsHold, itemsHold, linesHold, grantsHold, unusedRules}
+use Rattle.model.specs.Image.{shortestImage, longestImage, Tables, layoutOf, tablesBy, tables, encode}
+use Rattle.model.specs.Image.{widthOf, size, lineFormat, grantKey, lineKey, parentIn, subjectUsed}
+use Rattle.model.specs.Image.{itemIn, itemUsed, isList, isLocked, noneOrList, flagsFit, kindFits}
+use Rattle.model.specs.Image.{layoutRules, subjectsHold, itemsHold, linesHold, grantsHold, unusedRules}
 use Rattle.model.specs.Permission.{grantOf, operationSet, permissionSet}
 use Rattle.model.specs.Calls.{Ask, Change, rowsOf, rowsBefore, isEditor, askResult, after, changeResult}
 use Rattle.model.specs.Calls.Ask.{checkImage, operationSetOf, permissionSetOf, listCount}
@@ -31,12 +34,12 @@ infix 85 _asks_
 abbrev pub _asks_ : ℕ → Bool → Question
 n asks b = record { number = n; answer = b }
 
--- the number of the first question that is answered no, or 0
+-- the refusal: the number of the first question answered no; 0 if there is none
 unfoldable pub firstNo : List Question → ℕ
 firstNo [] = 0
 firstNo (q ∷ qs) = cond (q .answer) (firstNo qs) (q .number)
 
--- Questions 1 to 7, which concern every call, of bytes whose tables lie by a layout.
+-- Questions 1 to 7, which are asked before every call, about bytes whose tables a layout describes.
 abbrev pub questionsBy : Layout → List ℕ → List Question
 questionsBy lay img =
     1 asks (leb shortestImage (length img) && leb (length img) longestImage)
@@ -48,11 +51,11 @@ questionsBy lay img =
     ∷ 7 asks allOf (unusedRules lay img)
     ∷ []
 
--- The layout is the one that the header gives.
+-- The same questions about an image, with the layout that its header gives.
 unfoldable pub imageQuestions : List ℕ → List Question
 imageQuestions img = questionsBy (layoutOf img) img
 
--- The others, by call.
+-- The other questions, by call.
 
 unfoldable pub askQuestions : Tables → Ask → List Question
 askQuestions t checkImage = []
@@ -63,7 +66,7 @@ askQuestions t (listCount a) = 13 asks isList (t .items) a ∷ []
 unfoldable pub editorQuestions : Tables → ℕ → List Question
 editorQuestions t a = 13 asks isList (t .items) a ∷ 20 asks someNumbered (λ s row. isEditor t s a) (t .subjects) ∷ []
 
--- 16 of define subject: p is in the tree of the caller or of its claimed role's grantor
+-- question 16 of define subject: p is in the tree of caller c, or in that of the grantor of c's grant
 abbrev pub inReachUnder : Tables → ℕ → Option GrantRow → ℕ → Bool
 inReachUnder t c grant p = inTree (parentIn (t .subjects)) c p || ifThere (λ g. inTree (parentIn (t .subjects)) (g .grantor .0) p) grant
 
@@ -76,15 +79,15 @@ grantThere t s r = isThere (find grantKey (s ∷ r ∷ []) (t .grants))
 abbrev pub lineThere : Tables → ℕ → ℕ → ℕ → Bool
 lineThere t a k s = isThere (find lineKey (a ∷ k ∷ s ∷ []) (t .lines))
 
--- a row that may be missing is there, and c is its grantor
+-- a grant that may be missing is there, and c is its grantor
 abbrev pub givenBy : ℕ → Option GrantRow → Bool
 givenBy c = ifThere (λ g. eqb (g .grantor .0) c)
 
--- of the row for (s, r)
+-- there is a grant to s under role r, and c is its grantor
 abbrev pub grantedBy : Tables → ℕ → ℕ → ℕ → Bool
 grantedBy t c s r = givenBy c (find grantKey (s ∷ r ∷ []) (t .grants))
 
--- 15 of bind: c is the owner of an unlocked item, or the custodian
+-- question 15 of bind: c owns the item and the item is not locked, or c is the custodian
 abbrev pub mayBind : Tables → ℕ → ℕ → Bool
 mayBind t c i = eqb c (itemIn (t .items) i .owner .0) && not (isLocked (t .items) i) || eqb c custodian
 
@@ -151,24 +154,24 @@ questions t (handOver c i o) =
 abbrev pub answer : ℕ → ℕ → Answer
 answer n r = record { number = n; result = r }
 
--- A refusal has its number and result 0, success number 0 and the result.
+-- A refused call answers its refusal n and 0. Any other call answers 0 and its result r.
 abbrev pub answered : ℕ → ℕ → Answer
 answered n r = answer n (cond (eqb n 0) r 0)
 
--- Check an image.
+-- The check of an image: its refusal, or 0.
 unfoldable pub check : List ℕ → ℕ
 check img = firstNo (imageQuestions img)
 
--- What opening an image comes to: its layout where every question is answered yes, the number of the first no otherwise.
+-- What opening an image answers: its layout if every question of the check is answered yes, otherwise the refusal.
 unfoldable pub opened : List ℕ → Opened
 opened img = cond (eqb (check img) 0) (With (layoutOf img)) (Refused (check img))
 
--- the number of each case
+-- the number of each case: 0 for an opened image, otherwise the refusal
 abbrev pub refusalOf : Opened → ℕ
 refusalOf (With lay) = 0
 refusalOf (Refused n) = n
 
--- An accepted image: bytes for which questions 1 to 7 are all answered yes.
+-- An accepted image: a list of bytes that has no question of the check answered no.
 pub record Accepted (img : List ℕ) : Type 0 where
   pub bytes : Bytes img
   pub checked : check img ≡ 0
@@ -177,7 +180,7 @@ pub record Accepted (img : List ℕ) : Type 0 where
 unfoldable pub ask : List ℕ → Ask → Answer
 ask img q = answered (firstNo (imageQuestions img ++ askQuestions (tables img) q)) (askResult (tables img) q)
 
--- What a call that writes answers, and the image afterwards. A refused call changes no byte.
+-- The outcome of a call that writes: its answer, and the image afterwards. A refused call changes no byte.
 pub record Outcome : Type 0 where
   pub answer : Answer
   pub image : List ℕ
@@ -186,15 +189,20 @@ abbrev pub settle : ℕ → ℕ → List ℕ → List ℕ → Outcome
 settle n r old new = record { answer = answered n r; image = cond (eqb n 0) new old }
 
 unfoldable pub act : List ℕ → Change → Outcome
-act img c = settle (firstNo (imageQuestions img ++ questions (tables img) c)) (changeResult (tables img) c) img (encode (after (tables img) c))
+act img c =
+    settle (firstNo (imageQuestions img ++ questions (tables img) c)) (changeResult (tables img) c) img
+    (encode (after (tables img) c))
 
--- Lines of a list: the part of the image with its rows, as its first byte and its length. Refused, or without rows: the empty part at byte 0.
+-- Lines of a list: the slice of the image with the list's rows, as the offset of its first byte and its length. If the call is
+-- refused or the list has no rows, it is the empty slice at offset 0.
 abbrev pub shows : List ℕ → ℕ → Bool
 shows img a = eqb (ask img (listCount a) .number) 0 && not (eqb (ask img (listCount a) .result) 0)
 
 unfoldable pub listStart : List ℕ → ℕ → ℕ
 listStart img a =
-    cond (shows img a) (layoutOf img .lines .start + length (rowsBefore a (tables img .lines)) * size (lineFormat (widthOf (layoutOf img)))) 0
+    cond (shows img a)
+    (layoutOf img .lines .start + length (rowsBefore a (tables img .lines)) * size (lineFormat (widthOf (layoutOf img))))
+    0
 
 unfoldable pub listExtent : List ℕ → ℕ → ℕ
 listExtent img a = cond (shows img a) (length (rowsOf a (tables img .lines)) * size (lineFormat (widthOf (layoutOf img)))) 0
@@ -202,7 +210,8 @@ listExtent img a = cond (shows img a) (length (rowsOf a (tables img .lines)) * s
 abbrev pub listSlice : List ℕ → ℕ → List ℕ
 listSlice img a = take (listExtent img a) (drop (listStart img a) img)
 
--- Editor search. Its number is decided. Which of several editors its result names is undecided: these properties hold of it.
+-- Editor search. Its number is decided. Its result is not: if there are several editors, it may name any of them. This record
+-- is what holds of the answer.
 pub record EditorAnswer (img : List ℕ) (a : ℕ) (r : Answer) : Type 0 where
   pub number-decided : r .number ≡ firstNo (imageQuestions img ++ editorQuestions (tables img) a)
   pub refused : r .number ≢ 0 → r .result ≡ 0

@@ -8,7 +8,7 @@ use Rattle.model.specs.Image.{Tables, subjectRow, grantRow, lineRow, ite
 use Rattle.model.specs.Calls.Ask.{permissionSetOf}
 use Rattle.model.specs.Questions.{ask}
 
--- One spare row in each table.
+-- Each table has one free row.
 unfoldable pub workshop : Tables
 workshop =
     record {
@@ -21,7 +21,13 @@ workshop =
           ∷ subjectRow 2 3 1
           ∷ [];
       grants = grantRow 4 7 2 2 3 ∷ [];
-      lines = lineRow 1 itselfKind 4 8 ∷ lineRow 1 itselfKind 5 0 ∷ lineRow 1 groupKind 1 3 ∷ lineRow 1 ownerKind 0 7 ∷ lineRow 1 everyoneKind 0 1 ∷ [];
+      lines =
+          lineRow 1 itselfKind 4 8
+          ∷ lineRow 1 itselfKind 5 0
+          ∷ lineRow 1 groupKind 1 3
+          ∷ lineRow 1 ownerKind 0 7
+          ∷ lineRow 1 everyoneKind 0 1
+          ∷ [];
       items = itemRow 1 1 1 ∷ itemRow 2 1 0 ∷ itemRow 4 1 0 ∷ itemRow 2 0 0 ∷ [];
       capacities = record { subjects = 7; grants = 2; lines = 6; items = 5 };
     }
@@ -51,7 +57,7 @@ twelve =
     ∷ case 0 0 4 4294967295
     ∷ []
 
--- the permission set call answers a case's question, in an image, by number 0 and its set
+-- asked on an image, the permission set call answers number 0 and the set of the case
 abbrev pub right : List ℕ → Case → Bool
 right img c =
     eqb (ask img (permissionSetOf (c .asker) (c .role) (c .item)) .number) 0

@@ -1,9 +1,10 @@
--- Climbing from a number to lower ones. `up` is the step: a subject's parent, say. A step that does not go to a lower number leads nowhere, so
--- a climb from s has at most s steps; the first argument counts them.
+-- Climbing from a number to lower ones. `up` is the step, for example from a subject to its parent. A step that does not go to
+-- a lower number ends the climb, so a climb from s has at most s steps.
 use mathlib.Core.Bool.{Bool, _&&_, _||_}
 use Prim.Native.Nat.{ℕ, zero, suc}
 use lib.Dec.{eqb, ltb}
 
+-- s is h, or a climb from s meets h; the first argument is how many steps are still allowed
 unfoldable pub climbs : ℕ → (ℕ → ℕ) → ℕ → ℕ → Bool
 climbs zero up h s = eqb s h
 climbs (suc n) up h s = eqb s h || (ltb (up s) s && climbs n up h (up s))

@@ -1,5 +1,5 @@
--- The twelve sets of the sample workshop, proved against the rules: each as the permission set call answers it on the workshop's image, which is
--- accepted. One theorem covers the table, by computation.
+-- The twelve sets of the sample workshop, proved against the rules: the permission set call answers each of them on the
+-- workshop's image, which is accepted. One theorem covers the whole table. It is proved by computation.
 use lib.Dec.{T}
 use Rattle.model.specs.Lists.{every}
 use Rattle.model.specs.Image.{encode}

@@ -1,5 +1,7 @@
--- Document 01, "Who and what": numbers and privilege sets. Subjects count from 0, the custodian; items from 1; role 0 is no role. In a set, bit n is
--- position n: 0 read, 1 replace, 2 discard, 3 annotate, 4 create items, 5 define subjects, 6 edit an access list, the others the host's own.
+-- Document 01, "Who and what": numbers and privilege sets. Subjects are counted from 0, which is the custodian, and items
+-- from 1. Role 0 is no role. A privilege set is a number; its bit n says whether position n is in the set. The positions are
+-- read (0), replace (1), discard (2), annotate (3), create items (4), define subjects (5) and edit an access list (6). All
+-- higher ones belong to the host.
 use mathlib.Core.Bool.{Bool, cond}
 use Prim.Native.Nat.{ℕ, zero, suc, _/_, _%_, _^_, _-_}
 use lib.Bits.{bitAnd, bitOr}
@@ -8,7 +10,7 @@ use lib.Dec.{eqb, ltb}
 abbrev pub custodian : ℕ
 custodian = 0
 
--- the positions of the privileges that the calls ask for
+-- the positions that the calls ask for
 abbrev pub createItems : ℕ
 createItems = 4
 
@@ -18,7 +20,7 @@ defineSubjects = 5
 abbrev pub editList : ℕ
 editList = 6
 
--- the bytes of a privilege field
+-- how many bytes a privilege field has
 abbrev pub privilegeWidth : ℕ
 privilegeWidth = 4
 
@@ -30,6 +32,7 @@ everything w = 256 ^ w - 1
 unfoldable pub has : ℕ → ℕ → Bool
 has n p = eqb (p / 2 ^ n % 2) 1
 
+-- the privileges in either set, and those in both
 infixl 60 _∪_
 infixl 61 _∩_
 abbrev pub _∪_ : ℕ → ℕ → ℕ
@@ -42,11 +45,11 @@ a ∩ b = bitAnd a b
 abbrev pub within : ℕ → ℕ → Bool
 within a b = eqb (a ∩ b) a
 
--- The rule of the code's table of masks: the set of position n alone; past the last position, the empty set.
+-- The rule of the code's table of masks: the set with position n alone; past the last position, the empty set.
 abbrev pub maskOf : ℕ → ℕ
 maskOf n = cond (ltb n 32) (2 ^ n) 0
 
--- The calls that question 15 asks a position of, numbered as in the code's table.
+-- The calls that need a position by question 15, numbered as in the code's table.
 abbrev pub defineCall : ℕ
 defineCall = 0
 
@@ -59,11 +62,12 @@ setLineCall = 2
 abbrev pub removeLineCall : ℕ
 removeLineCall = 3
 
--- past the last position of every set, also of one of 64 bits
+-- a position that no set has, not even a set of 64 bits
 abbrev pub noPosition : ℕ
 noPosition = 64
 
--- The position that question 15 asks of each of them, which is also the rule of the code's table; of no other call, no position.
+-- The position that each of these calls needs by question 15. It is also the rule of the code's table. Any other number has
+-- `noPosition`.
 abbrev pub neededPosition : ℕ → ℕ
 neededPosition zero = defineSubjects
 neededPosition (suc zero) = createItems

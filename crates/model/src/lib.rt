@@ -1,5 +1,5 @@
-// The words of the library: numbers, rows, privilege positions, calls. What they mean is in specs/, one file for each section of
-// document 01.
+// The basic types, constants and functions of the library: numbers, rows, privilege positions, calls. specs/ defines what they
+// mean, in one file for each section of document 01.
 ghost use mathlib.Core.Path.{_≡_};
 ghost use Rattle.model.specs.WhoAndWhat.{maskOf, neededPosition, has, within, _∪_, _∩_};
 ghost use Rattle.model.specs.Image.{subjectRow, grantRow, lineRow, itemRow, withList, withOwner, listFlag, lockedFlag};
@@ -7,7 +7,7 @@ ghost use Rattle.model.specs.Questions.{answer};
 
 pub mod refusal;
 
-// A subject, an item and a role are each a number, and a type of their own: no call can be handed one for another.
+// A subject, an item and a role are each a number with a type of its own, so that no call takes one for another.
 #[repr(C)]
 pub struct Subject(pub u32);
 
@@ -49,7 +49,7 @@ pub struct ItemRow {
     pub flags: u32,
 }
 
-// What a search for a line answers, and one for a grant: the row, or that there is none.
+// What a search for a line or for a grant answers: the row, or that there is none.
 pub enum SoughtLine {
     Line(LineRow),
     NoLine,
@@ -60,14 +60,14 @@ pub enum SoughtGrant {
     NoGrant,
 }
 
-// One table of an image: its rows in use, the byte it starts at and the byte it ends before.
+// One table of an image: how many rows are in use, the offset at which it starts, and the offset right behind its last byte.
 pub struct Table {
     pub used: u32,
     pub start: u32,
     pub end: u32,
 }
 
-// Where the four tables of an image lie.
+// Where the four tables of an image start and end.
 pub struct Layout {
     pub subjects: Table,
     pub grants: Table,
@@ -75,7 +75,7 @@ pub struct Layout {
     pub items: Table,
 }
 
-// What opening an image comes to: it is accepted and lies by this layout, or it is refused with this number.
+// What opening an image answers: the layout of an accepted image, or the refusal.
 pub enum Opened {
     With(Layout),
     Refused(u32),
@@ -103,9 +103,9 @@ impl Answer {
 }
 
 impl Layout {
-    // The bytes of the header.
+    // How many bytes the header has.
     pub const HEADER: usize = 36;
-    // Where the header counts the rows in use of each table.
+    // The offsets at which the header counts the rows in use of each table.
     pub const SUBJECTS_USED: usize = 0;
 
     pub const GRANTS_USED: usize = 8;
@@ -113,7 +113,7 @@ impl Layout {
     pub const LINES_USED: usize = 16;
 
     pub const ITEMS_USED: usize = 24;
-    // The bytes of the shortest and of the longest image.
+    // How many bytes the shortest and the longest image have.
     pub const SHORTEST: usize = 36;
 
     pub const LONGEST: usize = 65536;
@@ -184,7 +184,7 @@ impl ItemRow {
     pub const IS_LIST: u32 = 1;
 
     pub const LOCKED: u32 = 2;
-    // How many numbers the flag bits make: flags from here on have a bit that means nothing.
+    // Flags are below this number: from it on, they have a bit without a meaning.
     pub const FLAGS: u32 = 4;
 
     pub fn new(owner: Subject, list: Item, flags: u32) -> ItemRow
@@ -193,7 +193,7 @@ impl ItemRow {
         ItemRow { owner, list, flags }
     }
 
-    // The item with another list, and with another owner.
+    // The item's row with another list, and with another owner.
     pub fn with_list(self, list: Item) -> ItemRow
         ensures { λ r. ⌜ r ≡ withList self (list .0) ⌝ }
     {
@@ -219,7 +219,7 @@ impl ItemRow {
     }
 }
 
-// The set of each position alone.
+// For each position, the set with that position alone.
 const MASKS: [Privileges; 32] = [
     1,
     2,
@@ -258,7 +258,7 @@ const MASKS: [Privileges; 32] = [
 // The position that each of the calls below needs, in their order.
 const NEEDED: [u32; 4] = [5, 4, 6, 6];
 
-// The calls that question 15 asks a position of.
+// The calls that need a position by question 15.
 pub const DEFINE_SUBJECT: u32 = 0;
 
 pub const CREATE_ITEM: u32 = 1;
@@ -267,7 +267,7 @@ pub const SET_LINE: u32 = 2;
 
 pub const REMOVE_LINE: u32 = 3;
 
-// The set of one position; past the last position, the empty set.
+// The set with one position alone; past the last position, the empty set.
 pub fn mask(position: u32) -> Privileges
     ensures { λ r. ⌜ r ≡ maskOf position ⌝ }
 {
@@ -278,7 +278,7 @@ pub fn mask(position: u32) -> Privileges
     MASKS[at]
 }
 
-// The position that a call needs; 64, which no set has, where the number is no such call's.
+// The position that a call needs. If the number is not one of these calls, it is 64, a position that no set has.
 pub fn needed_position(call: u32) -> u32
     ensures { λ r. ⌜ r ≡ neededPosition call ⌝ }
 {
@@ -289,14 +289,14 @@ pub fn needed_position(call: u32) -> u32
     NEEDED[at]
 }
 
-// The privileges of either set.
+// The privileges in either set.
 pub fn union(a: Privileges, b: Privileges) -> Privileges
     ensures { λ r. ⌜ r ≡ a ∪ b ⌝ }
 {
     a | b
 }
 
-// The privileges of both sets.
+// The privileges in both sets.
 pub fn intersection(a: Privileges, b: Privileges) -> Privileges
     ensures { λ r. ⌜ r ≡ a ∩ b ⌝ }
 {

@@ -1,4 +1,4 @@
-// The refusal numbers of document 01, "Questions before each call", in its order.
+// The refusals of document 01, "Questions before each call", in its order.
 pub const LENGTH: u32 = 1;
 
 pub const LAYOUT: u32 = 2;

@@ -8,4 +8,9 @@ tableAt used start = record { used = used; start = start; end = 0 }
 
 abbrev pub climbingLayout : ℕ → ℕ → ℕ → ℕ → Layout
 climbingLayout subjectsUsed subjectsStart linesUsed linesStart =
-    record { subjects = tableAt subjectsUsed subjectsStart; grants = tableAt 0 0; lines = tableAt linesUsed linesStart; items = tableAt 0 0 }
+    record {
+      subjects = tableAt subjectsUsed subjectsStart;
+      grants = tableAt 0 0;
+      lines = tableAt linesUsed linesStart;
+      items = tableAt 0 0;
+    }

@@ -1,4 +1,4 @@
--- The lines' part and what a grant adds, case by case as the code goes.
+-- The lines' part and what a grant adds, case by case as in the code.
 use mathlib.Core.Bool.{Bool, true, false, not}
 use mathlib.Core.Path.{_≡_}
 use Prim.Native.Nat.{ℕ}
@@ -33,7 +33,8 @@ module _ (t : Tables) (s r : ℕ) (row : ItemRow) where
 
   pub part-other : (d e : SoughtLine) (a b : ℕ)
       → (s ≡ 0 → ⊥)
-      → foundLine d ≡ orElse (directLine (t .lines) s (row .owner .0) (row .list .0)) (groupLine (parentIn (t .subjects)) (t .lines) s (row .list .0))
+      → foundLine d
+      ≡ orElse (directLine (t .lines) s (row .owner .0) (row .list .0)) (groupLine (parentIn (t .subjects)) (t .lines) s (row .list .0))
       → foundLine e ≡ lineIn (t .lines) (row .list .0) everyoneKind 0
       → a ≡ lineSet (foundLine d)
       → b ≡ lineSet (foundLine e)
@@ -43,7 +44,10 @@ module _ (t : Tables) (s r : ℕ) (row : ItemRow) where
   part-other d e a b h deciding everyone one two both = rw (ne-eqb s 0 h, ← deciding, ← everyone, ← one, ← two) both
 
 module _ (t : Tables) (x : SoughtGrant) (g : GrantRow) (said : x ≡ Grant g) (r : ℕ) where
-  pub operations-lent : (p : ℕ) → p ≡ privilegesIn (t .subjects) (g .grantor .0) → r ≡ g .privileges ∩ p → r ≡ lentOperations t (foundGrant x)
+  pub operations-lent : (p : ℕ)
+      → p ≡ privilegesIn (t .subjects) (g .grantor .0)
+      → r ≡ g .privileges ∩ p
+      → r ≡ lentOperations t (foundGrant x)
   operations-lent p e f = rw (said, ← e) f
 
   module _ (row : ItemRow) (b : Bool) (asked : b ≡ inTree (parentIn (t .subjects)) (g .domain .0) (row .owner .0)) where

@@ -33,7 +33,7 @@ module _ (lines : List LineRow) (kind s : ℕ) (o : Option LineRow) where
   some-list zero h e = absurd (h refl)
   some-list (suc a) h e = e
 
--- the first of two that is there
+-- the first of two lines that is there
 module _ (x : SoughtLine) (a b : Option LineRow) (said : foundLine x ≡ a) where
   pub first-there : (l : LineRow) → x ≡ Line l → some l ≡ orElse a b
   first-there l h = rw (← said, h)
@@ -53,16 +53,20 @@ module _ {A : Type 0} where
   index-there (x ∷ xs) zero d h = refl
   index-there (x ∷ xs) (suc n) d h = index-there xs n d (le-of-suc-le-suc h)
 
-  -- the row that a spot is over is the row that the search finds, and is there
+  -- if the row index is that of an existing row, that row is in the table and is the one that the search finds
   module _ (key : A → List ℕ) (k : List ℕ) (xs : List A) (index : RowIndex) (so : index ≡ rowIndex key k xs) (n : ℕ) where
     existing-first : index ≡ Existing n → (b : Option A) → getElem? xs n ≡ orElse (find key k xs) b
     existing-first over b = go (find key k xs) refl (sym so ∙ over)
       where
-        go : (o : Option A) → find key k xs ≡ o → cond (isThere o) (Existing (insertionIndex key k xs)) (New (insertionIndex key k xs)) ≡ Existing n → getElem? xs n ≡ orElse o b
+        go : (o : Option A)
+            → find key k xs ≡ o
+            → cond (isThere o) (Existing (insertionIndex key k xs)) (New (insertionIndex key k xs)) ≡ Existing n
+            → getElem? xs n ≡ orElse o b
         go none e same = absurd (false≢true cc)
         go (some y) e same =
             let here : insertionIndex key k xs ≡ n = cc in
-            rw (← here) (index-there xs (insertionIndex key k xs) y (found-index key k xs y e) ∙ ap some (found-at key k xs y y e))
+            rw (← here)
+            (index-there xs (insertionIndex key k xs) y (found-index key k xs y e) ∙ ap some (found-at key k xs y y e))
 
     new-none : index ≡ New n → find key k xs ≡ none
     new-none fresh = go (find key k xs) (sym so ∙ fresh)
@@ -71,23 +75,32 @@ module _ {A : Type 0} where
         go none same = refl
         go (some y) same = absurd (false≢true cc)
 
--- The group search, one step up. p is the parent, a a list, spot where its group line goes among the lines.
+-- The group search, one step up. p is the parent of s, a is a list, and `index` is the row index of p's group line in it.
 module _ (up : ℕ → ℕ) (lines : List LineRow) (s a p : ℕ) (e : p ≡ up s) where
   group-out : (n : ℕ) → length lines ≤ n → s ≤ p → getElem? lines n ≡ groupLine up lines s a
   group-out n past h = rw (index-past lines n past, group-up up lines a s, ← e, le-ltb p s h)
 
-  module _ (low : p < s) (some-a : a ≡ 0 → ⊥) (index : RowIndex) (so : index ≡ rowIndex lineKey (a ∷ groupKind ∷ p ∷ []) lines) (n : ℕ) where
+  module _ (low : p < s) (some-a : a ≡ 0 → ⊥) (index : RowIndex)
+      (so : index ≡ rowIndex lineKey (a ∷ groupKind ∷ p ∷ []) lines) (n : ℕ) where
     stepped : groupLine up lines s a ≡ orElse (find lineKey (a ∷ groupKind ∷ p ∷ []) lines) (groupLine up lines p a)
-    stepped = rw (group-up up lines a s, ← e, lt-ltb p s low, ← some-list lines groupKind p (find lineKey (a ∷ groupKind ∷ p ∷ []) lines) a some-a refl)
+    stepped =
+        rw (
+          group-up up lines a s,
+          ← e,
+          lt-ltb p s low,
+          ← some-list lines groupKind p (find lineKey (a ∷ groupKind ∷ p ∷ []) lines) a some-a refl,
+        )
 
     group-here : index ≡ Existing n → getElem? lines n ≡ groupLine up lines s a
-    group-here over = existing-first lineKey (a ∷ groupKind ∷ p ∷ []) lines index so n over (groupLine up lines p a) ∙ sym stepped
+    group-here over =
+        existing-first lineKey (a ∷ groupKind ∷ p ∷ []) lines index so n over (groupLine up lines p a) ∙ sym stepped
 
     group-above : (r : ℕ) → index ≡ New n → getElem? lines r ≡ groupLine up lines p a → getElem? lines r ≡ groupLine up lines s a
     group-above r fresh f = rw (stepped, new-none lineKey (a ∷ groupKind ∷ p ∷ []) lines index so n fresh) f
 
--- The same as the code goes: lay is as much of a layout as it was handed.
-module _ (img : List ℕ) (members membersAt count linesAt : ℕ) (lay : Layout) (is : lay ≡ climbingLayout members membersAt count linesAt) (s a p : ℕ)
+-- The same in the form of the code. lay is as much of a layout as the search was handed.
+module _ (img : List ℕ) (members membersAt count linesAt : ℕ) (lay : Layout)
+    (is : lay ≡ climbingLayout members membersAt count linesAt) (s a p : ℕ)
     (e : p ≡ parentIn (tablesBy lay img .subjects) s) where
   abbrev lines : List LineRow
   lines = tablesBy (climbingLayout members membersAt count linesAt) img .lines
@@ -100,16 +113,22 @@ module _ (img : List ℕ) (members membersAt count linesAt : ℕ) (lay : Layout)
 
   pub climb-out : s ≤ p → getElem? lines count ≡ groupLine parent lines s a
   unfolding tablesBy
-  climb-out h = group-out parent lines s a p step count (le-of-eq (rows-count (lineFormat (widthOf lay)) (climbingLayout members membersAt count linesAt .lines) img)) h
+  climb-out h =
+      group-out parent lines s a p step count
+      (le-of-eq (rows-count (lineFormat (widthOf lay)) (climbingLayout members membersAt count linesAt .lines) img)) h
 
-  module _ (low : p < s) (some-a : a ≡ 0 → ⊥) (index : RowIndex) (so : index ≡ rowIndex lineKey (a ∷ groupKind ∷ p ∷ []) (tablesBy lay img .lines)) (n : ℕ) where
+  module _ (low : p < s) (some-a : a ≡ 0 → ⊥) (index : RowIndex)
+      (so : index ≡ rowIndex lineKey (a ∷ groupKind ∷ p ∷ []) (tablesBy lay img .lines)) (n : ℕ) where
     pub climb-here : index ≡ Existing n → getElem? lines n ≡ groupLine parent lines s a
     climb-here over = group-here parent lines s a p step low some-a index (rw is at so) n over
 
-    pub climb-above : (r : ℕ) → index ≡ New n → getElem? lines r ≡ groupLine parent lines p a → getElem? lines r ≡ groupLine parent lines s a
+    pub climb-above : (r : ℕ)
+        → index ≡ New n
+        → getElem? lines r ≡ groupLine parent lines p a
+        → getElem? lines r ≡ groupLine parent lines s a
     climb-above r fresh f = group-above parent lines s a p step low some-a index (rw is at so) n r fresh f
 
--- no list, no group line
+-- without a list there is no group line
 no-group : (n : ℕ) (up : ℕ → ℕ) (lines : List LineRow) (s : ℕ) → groupWithin n up lines s 0 ≡ none
 unfolding groupWithin
 no-group zero up lines s = refl
@@ -119,7 +138,8 @@ pub no-list : (up : ℕ → ℕ) (lines : List LineRow) (s a : ℕ) → a ≡ 0 
 unfolding groupLine
 no-list up lines s a z = rw z (no-group s up lines s)
 
--- What the group search found, by its index: it is handed as much of the layout as it reads, and its tables are those of the layout.
+-- What the group search found, by its index. The search is handed as much of the layout as it reads, so its subjects and
+-- lines are those of the layout.
 module _ (lay : Layout) (img : List ℕ) (s a : ℕ) where
   abbrev found : Option LineRow
   found = groupLine (parentIn (tablesBy lay img .subjects)) (tablesBy lay img .lines) s a
@@ -130,20 +150,25 @@ module _ (lay : Layout) (img : List ℕ) (s a : ℕ) where
   abbrev climbed : Layout
   climbed = climbingLayout (lay .subjects .used) (lay .subjects .start) (lay .lines .used) (lay .lines .start)
 
-  module _ (n : ℕ) (said : getElem? (tablesBy climbed img .lines) n ≡ groupLine (parentIn (tablesBy climbed img .subjects)) (tablesBy climbed img .lines) s a) where
+  module _ (n : ℕ)
+      (said : getElem? (tablesBy climbed img .lines) n
+      ≡ groupLine (parentIn (tablesBy climbed img .subjects)) (tablesBy climbed img .lines) s a) where
     pub index-none : lay .lines .used ≤ n → none ≡ found
     unfolding tablesBy rowsIn
     index-none past =
         let rows : List LineRow = rowsIn (lineFormat (widthOf lay)) (lay .lines) img in
         sym (index-past rows n (rw (rows-count (lineFormat (widthOf lay)) (lay .lines) img) past)) ∙ said
 
-    pub index-row : (x : LineRow) → n < lay .lines .used → x ≡ getD (rowsIn (lineFormat (widthOf lay)) (lay .lines) img) n noLine → some x ≡ found
+    pub index-row : (x : LineRow)
+        → n < lay .lines .used
+        → x ≡ getD (rowsIn (lineFormat (widthOf lay)) (lay .lines) img) n noLine
+        → some x ≡ found
     unfolding tablesBy rowsIn
     index-row x there e =
         let rows : List LineRow = rowsIn (lineFormat (widthOf lay)) (lay .lines) img in
         ap some e ∙ sym (index-there rows n noLine (rw (rows-count (lineFormat (widthOf lay)) (lay .lines) img) there)) ∙ said
 
--- The owner's line, and anybody else's.
+-- The direct line: the owner's line for the owner, the subject's own line for anybody else.
 module _ (lines : List LineRow) (s o a : ℕ) (r : Option LineRow) where
   pub direct-owner : s ≡ o → r ≡ lineIn lines a ownerKind 0 → r ≡ directLine lines s o a
   unfolding directLine

@@ -1,4 +1,4 @@
--- The sets of a subject, put together as the code does.
+-- The sets of a subject, put together as the code does it.
 use mathlib.Core.Option.{Option}
 use mathlib.Core.Path.{_≡_, ap, _∙_}
 use Prim.Native.Nat.{ℕ}
@@ -6,7 +6,8 @@ use Rattle.model.specs.declared.GrantRow.{GrantRow}
 use Rattle.model.specs.declared.ItemRow.{ItemRow}
 use Rattle.model.specs.WhoAndWhat.{_∪_, _∩_}
 use Rattle.model.specs.Image.{Tables, privilegesIn, itemIn}
-use Rattle.model.specs.Permission.{partOn, lentOperations, lentOn, grantOf, operationUnder, objectUnder, permissionUnder, operationSet, permissionSet}
+use Rattle.model.specs.Permission.{partOn, lentOperations, lentOn, grantOf}
+use Rattle.model.specs.Permission.{operationUnder, objectUnder, permissionUnder, operationSet, permissionSet}
 
 module _ (t : Tables) (s : ℕ) (g : Option GrantRow) (a b r : ℕ) where
   pub operations-joined : a ≡ privilegesIn (t .subjects) s → b ≡ lentOperations t g → r ≡ a ∪ b → r ≡ operationUnder t s g
@@ -14,7 +15,12 @@ module _ (t : Tables) (s : ℕ) (g : Option GrantRow) (a b r : ℕ) where
   operations-joined own lent both = rw (← own, ← lent) both
 
   -- of an item whose row was read
-  pub objects-joined : (i : ℕ) (row : ItemRow) → row ≡ itemIn (t .items) i → a ≡ partOn t s row → b ≡ lentOn t g row → r ≡ a ∪ b → r ≡ objectUnder t s g i
+  pub objects-joined : (i : ℕ) (row : ItemRow)
+      → row ≡ itemIn (t .items) i
+      → a ≡ partOn t s row
+      → b ≡ lentOn t g row
+      → r ≡ a ∪ b
+      → r ≡ objectUnder t s g i
   unfolding objectUnder
   objects-joined i row read own lent both = rw (← read, ← own, ← lent) both
 

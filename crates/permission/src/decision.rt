@@ -1,5 +1,5 @@
-// How a permission is found: the sets of a subject, under a grant that it holds or might hold, and under the role that it claims. No function checks the
-// image: a caller that has checked it once may ask for any number of sets.
+// How a permission is found: the sets of a subject, under a grant that it holds or might hold, and under the role that it
+// claims. No function checks the image: a caller that has checked it once may ask for any number of sets.
 ghost use mathlib.Core.Path.{_≡_};
 ghost use Rattle.model.specs.Image.{tablesBy};
 ghost use Rattle.model.specs.Permission.{foundGrant, grantOf, operationUnder, objectUnder, permissionUnder, operationSet, permissionSet};
@@ -41,7 +41,7 @@ pub fn operations_under(
     union(own, lent)
 }
 
-// The item's row is read once, for the subject's part and for what the grant adds.
+// The item's row is read once, for the lines' part of the subject and for what the grant adds.
 pub fn objects_under(
     image: &[u8],
     layout: Layout,

@@ -1,5 +1,5 @@
-// The lines that speak of a subject. Like all that decides, the functions take the image and its layout, ask no question about them, and are total: they
-// answer by the tables that the layout cuts out of the image.
+// The lines that apply to a subject. Like all functions that decide a permission, these take the image and its layout and
+// check neither. They are total: they answer by the tables that the layout cuts out of the image.
 ghost use mathlib.Core.Logic.{_≢_};
 ghost use mathlib.Core.Path.{_≡_};
 ghost use lib.ListN.{getElem?};
@@ -54,8 +54,9 @@ pub fn group_line(image: &[u8], layout: Layout, subject: Subject, list: Item) ->
     SoughtLine::Line(line_at(image, layout, n))
 }
 
-// Its index among the lines; as many as there are where there is none. The search goes up by recursion on the subject's number, which falls: a parent that is
-// not lower ends it. It is handed plain numbers and answers one, since every level stays on the stack, and a chain of groups may have thousands.
+// The index of that line, or the number of lines in use if there is none. The search goes up by recursion on the subject's
+// number, which falls: a parent that is not lower ends the search. It is handed plain numbers and answers one, because
+// every level stays on the stack and a chain of groups may have thousands of levels.
 fn group_index(
     image: &[u8],
     subjects_used: u32,
@@ -89,7 +90,7 @@ fn group_index(
     }
 }
 
-// As much of a layout as the group search reads: where the subjects and the lines lie.
+// As much of a layout as the group search reads: the rows in use and the offsets of the subjects and of the lines.
 fn climbing_layout(
     subjects_used: u32,
     subjects_start: u32,
@@ -135,7 +136,7 @@ pub fn direct_line(
     line_of(image, layout, list, LineRow::ITSELF, subject)
 }
 
-// The line that decides for a subject: its direct line, even if that holds 0, and else the group's.
+// The line that decides for a subject: its direct line, even if that holds 0, or else the group's line.
 pub fn deciding_line(
     image: &[u8],
     layout: Layout,

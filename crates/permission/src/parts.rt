@@ -28,7 +28,8 @@ pub fn line_set(found: SoughtLine) -> Privileges
     }
 }
 
-// The lines' part of a subject on an item, whose row is handed in. No list means no lines, so there is no group to look for.
+// The lines' part of a subject on an item, whose row is handed in. No list means no lines, so there is no group to look
+// for.
 pub fn lines_part(image: &[u8], layout: Layout, subject: Subject, item: ItemRow) -> Privileges
     ensures { λ r. ⌜ r ≡ partOn (tablesBy layout (now (image .entry))) (subject .0) item ⌝ }
 {
@@ -56,7 +57,8 @@ pub fn lent_operations(image: &[u8], layout: Layout, grant: SoughtGrant) -> Priv
     }
 }
 
-// What a grant adds to the object set of an item whose owner is in the grant's domain: its privileges that are in its grantor's lines' part.
+// What a grant adds to the object set of an item whose owner is in the grant's domain: its privileges that are in its
+// grantor's lines' part.
 pub fn lent_part(image: &[u8], layout: Layout, grant: SoughtGrant, item: ItemRow) -> Privileges
     ensures { λ r. ⌜ r ≡ lentOn (tablesBy layout (now (image .entry))) (foundGrant grant) item ⌝ }
 {

@@ -1,5 +1,5 @@
-// Reads an image from standard input and prints each subject's set on each item under role 0, or the refusal. The image is checked once, and the text is written a page at a
-// time; what it says is decided in `reporting`.
+// Reads an image from standard input and prints each subject's set on each item under role 0, or the refusal. The image is
+// checked once, and the text is written a page at a time. `reporting` decides what the text says.
 ghost use Prim.Native.Nat.{_≤_};
 ghost use lib.ListN.{length};
 use acceptance::open;
@@ -35,13 +35,13 @@ fn print_report(image: &[u8], page: &mut [u8; PAGE]) {
     }
 }
 
-// The heading, or the refusal; false where nobody reads.
+// Prints the heading, or the refusal. Answers false where nobody reads the output.
 fn print_first(number: u32, page: &mut [u8; PAGE]) -> bool {
     let start = first_line(number, page);
     write_from(page, start)
 }
 
-// Stops where nobody reads any more.
+// Prints page after page, and stops where nobody reads the output any more.
 fn print_lines(image: &[u8], layout: Layout, page: &mut [u8; PAGE]) {
     let count = line_count(image, layout);
     let mut first = 0;
@@ -54,7 +54,7 @@ fn print_lines(image: &[u8], layout: Layout, page: &mut [u8; PAGE]) {
     }
 }
 
-// The text that a page ends in.
+// Prints the text that a page ends in, which starts at offset `start`.
 fn write_from(page: &[u8], start: usize) -> bool
     requires { ⌜ start ≤ length (now page) ⌝ }
 {

@@ -1,4 +1,5 @@
--- The digits of a number: any number of steps that is enough gives them all, each step puts one in front, and a number below 10 ^ k has at most k.
+-- The digits of a number. Any number of steps that is enough gives all digits. The digits of a number are those of its tenth
+-- and then its last digit. A number below 10 ^ k has at most k digits.
 use mathlib.Core.List.{List, [], _∷_, _++_}
 use mathlib.Core.Logic.{⊎-elim}
 use mathlib.Core.Path.{_≡_, refl, sym, ap, _∙_}
@@ -45,9 +46,10 @@ pub digits-step : (n : ℕ) → 0 < n → digitsOf n ≡ digitsOf (n / 10) ++ di
 digits-step zero h = absurd (omega arith)
 digits-step (suc n) h =
     within-one n (suc n) h
-    ∙ ap (λ (l : List ℕ). l ++ digit (suc n % 10) ∷ []) (within-same n (suc n / 10) (suc n / 10) (omega (arith, tenth (suc n) h)) (omega arith))
+    ∙ ap (λ (l : List ℕ). l ++ digit (suc n % 10) ∷ [])
+    (within-same n (suc n / 10) (suc n / 10) (omega (arith, tenth (suc n) h)) (omega arith))
 
--- below ten times p, a tenth is below p
+-- a tenth of a number below 10 ^ (k + 1) is below 10 ^ k
 tenth-below : (k n : ℕ) → n < 10 ^ suc k → n / 10 < 10 ^ k
 tenth-below k n h = div-lt-iff-lt-mul {k = 10} {x = n} {y = 10 ^ k} (omega arith) .1 (rw pow-suc at h)
 

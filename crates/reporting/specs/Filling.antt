@@ -1,4 +1,4 @@
--- Lines put into a page: a line from its numbers, and line in front of line.
+-- Lines put into a page: each line from its numbers, and one line in front of the other.
 use mathlib.Core.List.{List, [], _++_, append-nil}
 use mathlib.Core.Path.{_≡_, refl, ap, _∙_}
 use Prim.Native.Nat.{ℕ, zero, suc, _+_, _-_, _*_, _/_, _%_, _^_, _<_, _≤_, min}
@@ -15,7 +15,7 @@ use Rattle.reporting.specs.Report.{space, newline, endedBy, reportLine, 
 use Rattle.reporting.specs.Pages.{firstLine, lineCount, lineAt, linesFrom, pageLines, pageSize, page, endingIn, Put}
 use Rattle.reporting.specs.Texts.{put-none, put-more}
 
--- A line from its numbers, the last first.
+-- A line is put in from its numbers, the last number first.
 pub numbers-put : (p : List ℕ) (end s i v : ℕ) (q₁ : List ℕ) (r₁ : ℕ) (q₂ : List ℕ) (r₂ : ℕ) (q₃ : List ℕ) (r₃ : ℕ)
     → Put p end (endedBy newline v) q₁ r₁
     → Put q₁ r₁ (endedBy space i) q₂ r₂
@@ -25,7 +25,7 @@ unfolding reportLine
 numbers-put p end s i v q₁ r₁ q₂ r₂ q₃ r₃ a b c =
     put-more p end _ q₂ r₂ (endedBy space s) q₃ r₃ (put-more p end (endedBy newline v) q₁ r₁ (endedBy space i) q₂ r₂ a b) c
 
--- Line n by the layout's counts.
+-- Line n, by the layout's counts of subjects and items.
 module _ (lay : Layout) (img : List ℕ) where
   pub subjects-count : length (tablesBy lay img .subjects) ≡ lay .subjects .used
   unfolding tablesBy
@@ -56,7 +56,8 @@ module _ (lay : Layout) (img : List ℕ) where
     unfolding lineAt
     line-put p end v q r is a = rw (items-count, ← is) a
 
--- Lines from the last to the first: of n lines from line k on all but the first `left` are there, and none is longer than 63 bytes.
+-- Lines are put in from the last to the first. Of the n lines from line k on, all but the first `left` are there, and none
+-- is longer than 63 bytes.
 module _ (t : Tables) (k n : ℕ) (p : List ℕ) (end : ℕ) where
   pub record Lined (left : ℕ) (q : List ℕ) (r : ℕ) : Type 0 where
     pub within : left ≤ n
@@ -86,7 +87,9 @@ module _ (t : Tables) (k n : ℕ) (p : List ℕ) (end : ℕ) where
       let next : suc (k + (left - 1)) ≡ k + left = omega arith in
       let rest : n - (left - 1) ≡ suc (n - left) = omega (arith, a .within) in
       let whole : linesFrom t (k + (left - 1)) (n - (left - 1)) ≡ lineAt t (k + (left - 1)) ++ linesFrom t (k + left) (n - left) =
-      ap (linesFrom t (k + (left - 1))) rest ∙ one-more (k + (left - 1)) (n - left) ∙ ap (λ (j : ℕ). lineAt t (k + (left - 1)) ++ linesFrom t j (n - left)) next in
+      ap (linesFrom t (k + (left - 1))) rest
+      ∙ one-more (k + (left - 1)) (n - left)
+      ∙ ap (λ (j : ℕ). lineAt t (k + (left - 1)) ++ linesFrom t j (n - left)) next in
       record {
         within = omega (arith, a .within);
         there = rw whole (put-more p end (linesFrom t (k + left) (n - left)) q r (lineAt t (k + (left - 1))) q′ r′ (a .there) b);
@@ -100,7 +103,7 @@ module _ (t : Tables) (k n : ℕ) (p : List ℕ) (end : ℕ) where
       let all : n - left ≡ n = omega arith in
       rw (start, all) at (a .there)
 
--- A text that ends where the page ends, which is the one wanted.
+-- A text that ends where the page ends, and that is the wanted text.
 module _ (p text wanted q : List ℕ) (r : ℕ) (is : text ≡ wanted) (whole : length p ≡ pageSize) (a : Put p pageSize text q r) where
   pub ends-at : r ≡ pageSize - length wanted
   ends-at = rw (← is) (omega (arith, a .starts))
@@ -111,7 +114,7 @@ module _ (p text wanted q : List ℕ) (r : ℕ) (is : text ≡ wanted) (whole : 
       let none : drop pageSize p ≡ [] = drop-of-length-le p {i = pageSize} (omega arith) in
       a .made ∙ rw (none, append-nil, whole, ← ends-at, is)
 
--- nothing put into a page
+-- an empty text keeps the page as it was
 module _ (p wanted : List ℕ) (is : [] ≡ wanted) where
   pub none-at : pageSize ≡ pageSize - length wanted
   none-at = rw (← is)
@@ -122,7 +125,7 @@ module _ (p wanted : List ℕ) (is : [] ≡ wanted) where
       let e : length p - 0 ≡ length p = omega arith in
       rw (← is, e, take-length, append-nil)
 
--- The first line, by its two cases.
+-- The two cases of the first line: the heading, and the refusal.
 pub first-heading : (n : ℕ) → n ≡ 0 → heading ≡ firstLine n
 unfolding firstLine
 first-heading n e = rw e
@@ -154,7 +157,7 @@ module _ (t : Tables) (k : ℕ) where
     pub page-full : pageLines ≤ c - k → linesFrom t k pageLines ≡ page t k
     page-full h = page-of pageLines (omega arith)
 
--- the product of two numbers of 32 bits
+-- the product of two numbers of 32 bits, and 2 ^ 32 more, is below 2 ^ 64
 pub product-small : (a b : ℕ) → a < 2 ^ 32 → b < 2 ^ 32 → a * b + 2 ^ 32 < 2 ^ 64
 product-small a b ha hb =
     let wide : a * b ≤ a * (2 ^ 32 - 1) = mul-le-mul-left a (omega arith) in

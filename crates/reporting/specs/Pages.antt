@@ -1,5 +1,5 @@
--- The report as the code writes it: its first line, and its other lines by their number, so many to a page; and a text put into bytes. `Whole` shows that these
--- are the report.
+-- The report as the code writes it: the first line, and then the other lines by their number, page after page. And what it
+-- is to put a text into bytes. `Whole` shows that the first line and the pages are the report.
 use mathlib.Core.Bool.{cond}
 use mathlib.Core.List.{List, [], _++_}
 use mathlib.Core.Path.{_≡_}
@@ -10,7 +10,7 @@ use Rattle.model.specs.Image.{Tables}
 use Rattle.model.specs.Permission.{permissionSet}
 use Rattle.reporting.specs.Report.{reportLine, heading, refusedLine}
 
--- the first line, by what the check said
+-- the first line, by the number that the check answered
 unfoldable pub firstLine : ℕ → List ℕ
 firstLine number = cond (eqb number 0) heading (refusedLine number)
 
@@ -18,16 +18,18 @@ firstLine number = cond (eqb number 0) heading (refusedLine number)
 abbrev pub lineCount : Tables → ℕ
 lineCount t = length (t .subjects) * length (t .items)
 
--- Line k: of each subject as many lines as there are items.
+-- Line k. Each subject has as many lines as there are items.
 unfoldable pub lineAt : Tables → ℕ → List ℕ
-lineAt t k = reportLine (k / length (t .items)) (k % length (t .items) + 1) (permissionSet t (k / length (t .items)) 0 (k % length (t .items) + 1))
+lineAt t k =
+    reportLine (k / length (t .items)) (k % length (t .items) + 1)
+    (permissionSet t (k / length (t .items)) 0 (k % length (t .items) + 1))
 
 -- n lines from line k on
 unfoldable pub linesFrom : Tables → ℕ → ℕ → List ℕ
 linesFrom t k zero = []
 linesFrom t k (suc n) = lineAt t k ++ linesFrom t (suc k) n
 
--- A page begins at any line, and has so many lines or those that are left.
+-- A page begins at any line, and has `pageLines` lines, or those that are left.
 abbrev pub pageLines : ℕ
 pageLines = 1040
 
@@ -37,7 +39,7 @@ pageSize = 65536
 unfoldable pub page : Tables → ℕ → List ℕ
 page t k = linesFrom t k (min (lineCount t - k) pageLines)
 
--- bytes with a text at their end
+-- bytes whose end is replaced by a text
 unfoldable pub endingIn : List ℕ → List ℕ → List ℕ
 endingIn bytes text = take (length bytes - length text) bytes ++ text
 
@@ -46,7 +48,7 @@ unfoldable pub pagesFrom : Tables → ℕ → ℕ → List ℕ
 pagesFrom t k zero = []
 pagesFrom t k (suc m) = page t k ++ pagesFrom t (k + pageLines) m
 
--- In q the text stands before byte `end` and starts at byte r; the other bytes are p's.
+-- In q the text starts at offset r and ends before offset `end`. The other bytes are those of p.
 pub record Put (p : List ℕ) (end : ℕ) (text q : List ℕ) (r : ℕ) : Type 0 where
   pub fits : end ≤ length p
   pub starts : r + length text ≡ end

@@ -17,7 +17,7 @@ newline = 10
 abbrev pub digit : ℕ → ℕ
 digit d = 48 + d
 
--- the digits of n, the most significant first, and none for 0; m counts the steps, of which n are more than enough
+-- the digits of n, the most significant first, and none for 0; m is the number of steps, and n steps are enough
 unfoldable pub digitsWithin : ℕ → ℕ → List ℕ
 digitsWithin zero n = []
 digitsWithin (suc m) n = cond (eqb n 0) [] (digitsWithin m (n / 10) ++ digit (n % 10) ∷ [])
@@ -29,20 +29,20 @@ digitsOf n = digitsWithin n n
 unfoldable pub decimal : ℕ → List ℕ
 decimal n = digitsOf (n / 10) ++ digit (n % 10) ∷ []
 
--- n and what comes behind it
+-- n in decimal, and behind it byte b
 abbrev pub endedBy : ℕ → ℕ → List ℕ
 endedBy b n = decimal n ++ b ∷ []
 
--- a line: subject, item and set, one space between
+-- a line: subject, item and set, with one space between them
 unfoldable pub reportLine : ℕ → ℕ → ℕ → List ℕ
 reportLine s i p = endedBy space s ++ (endedBy space i ++ endedBy newline p)
 
--- a subject's set under role 0 on each of n items from item i on
+-- the lines of subject s for n items from item i on, with its set under role 0 on each
 unfoldable pub itemLines : Tables → ℕ → ℕ → ℕ → List ℕ
 itemLines t s i zero = []
 itemLines t s i (suc n) = reportLine s i (permissionSet t s 0 i) ++ itemLines t s (suc i) n
 
--- on all items, of each of n subjects from subject s on
+-- the lines of n subjects from subject s on, each for all items
 unfoldable pub subjectLines : Tables → ℕ → ℕ → List ℕ
 subjectLines t s zero = []
 subjectLines t s (suc n) = itemLines t s 1 (length (t .items)) ++ subjectLines t (suc s) n
@@ -58,6 +58,7 @@ refusedWord = 114 ∷ 101 ∷ 102 ∷ 117 ∷ 115 ∷ 101 ∷ 100 ∷ space ∷ 
 abbrev pub refusedLine : ℕ → List ℕ
 refusedLine n = refusedWord ++ endedBy newline n
 
--- The report: the heading and a line for each subject and item, subjects ascending, items ascending within them; of a refused image the refusal alone.
+-- The report: the heading, then a line for each subject and item. Subjects ascend, and items ascend within a subject. For a
+-- refused image, the report is the refusal alone.
 unfoldable pub report : List ℕ → List ℕ
 report img = cond (eqb (check img) 0) (heading ++ subjectLines (tables img) 0 (length (tables img .subjects))) (refusedLine (check img))

@@ -1,4 +1,4 @@
--- Texts put into bytes from their end: what each leaves, and that one put in front of another is both.
+-- Texts put into bytes from their end: what each leaves, and that a text put in front of another gives both texts.
 use mathlib.Core.List.{List, [], _∷_, _++_, append-assoc, append-nil}
 use mathlib.Core.Path.{_≡_, refl, sym, ap, _∙_}
 use Prim.Native.Nat.{ℕ, suc, _+_, _-_, _<_, _≤_, _/_, _%_, _^_}
@@ -22,11 +22,16 @@ put-one p end v some h =
       same-length = length-set p (end - 1) v;
     }
 
-pub put-more : (p : List ℕ) (end : ℕ) (x q : List ℕ) (r : ℕ) (y q′ : List ℕ) (r′ : ℕ) → Put p end x q r → Put q r y q′ r′ → Put p end (y ++ x) q′ r′
+pub put-more : (p : List ℕ) (end : ℕ) (x q : List ℕ) (r : ℕ) (y q′ : List ℕ) (r′ : ℕ)
+    → Put p end x q r
+    → Put q r y q′ r′
+    → Put p end (y ++ x) q′ r′
 put-more p end x q r y q′ r′ a b =
     let long : length (take r p) ≡ r = length-take-le r p (omega (arith, a .fits, a .starts)) in
     let front : take r′ q ≡ take r′ p =
-    ap (take r′) (a .made) ∙ take-append-le r′ (take r p) (x ++ drop end p) (omega (arith, b .starts)) ∙ take-take r′ r p (omega (arith, b .starts)) in
+    ap (take r′) (a .made)
+    ∙ take-append-le r′ (take r p) (x ++ drop end p) (omega (arith, b .starts))
+    ∙ take-take r′ r p (omega (arith, b .starts)) in
     let back : drop r q ≡ x ++ drop end p = ap (drop r) (a .made) ∙ drop-at (take r p) (x ++ drop end p) r long in
     record {
       fits = a .fits;
@@ -35,7 +40,7 @@ put-more p end x q r y q′ r′ a b =
       same-length = b .same-length ∙ a .same-length;
     }
 
--- A text byte by byte, the last first: from byte k on it is there.
+-- A text is put in byte by byte, the last byte first: what is there is the text from its byte k on.
 module _ (p : List ℕ) (end : ℕ) (text : List ℕ) where
   pub tail-none : end ≤ length p → Put p end (drop (length text) text) p end
   tail-none h = rw drop-length (put-none p end h)
@@ -62,8 +67,8 @@ module _ (p : List ℕ) (end : ℕ) (text : List ℕ) where
       let e : k ≡ 0 = omega arith in
       rw e at a
 
--- The digits of a number above the last, the last of them first: rest is what is still to be written. A number of 64 bits has at most twenty digits, so there is room for
--- each.
+-- The digits in front of the last digit are put in one by one, from right to left. n is the number that they make, and
+-- `rest` is what is still to be put in. A number of 64 bits has at most twenty digits, so there is space for each.
 pub record Spelt (p : List ℕ) (end n : ℕ) (q : List ℕ) (r rest : ℕ) : Type 0 where
   pub done : List ℕ
   pub there : Put p end done q r
@@ -73,11 +78,13 @@ pub record Spelt (p : List ℕ) (end n : ℕ) (q : List ℕ) (r rest : ℕ) : Ty
 
 module _ (p : List ℕ) (end n : ℕ) where
   pub spelt-none : end ≤ length p → 19 ≤ end → n < 10 ^ 19 → Spelt p end n p end n
-  spelt-none h fits short = record { done = []; there = put-none p end h; whole = append-nil (digitsOf n); few = digits-few 19 n short; fits = fits }
+  spelt-none h fits short =
+      record { done = []; there = put-none p end h; whole = append-nil (digitsOf n); few = digits-few 19 n short; fits = fits }
 
   pub spelt-fits : (q : List ℕ) (r rest : ℕ) → 0 < rest → Spelt p end n q r rest → 1 ≤ r
   spelt-fits q r rest some a =
-      let all : length (digitsOf rest) + length (a .done) ≡ length (digitsOf n) = sym (length-append (digitsOf rest) (a .done)) ∙ ap length (a .whole) in
+      let all : length (digitsOf rest) + length (a .done) ≡ length (digitsOf n) =
+      sym (length-append (digitsOf rest) (a .done)) ∙ ap length (a .whole) in
       let one : length (digitsOf rest) ≡ length (digitsOf (rest / 10)) + 1 =
       ap length (digits-step rest some) ∙ length-append (digitsOf (rest / 10)) (digit (rest % 10) ∷ []) in
       omega (arith, a .there .starts, a .few, a .fits)
@@ -92,7 +99,10 @@ module _ (p : List ℕ) (end n : ℕ) where
       record {
         done = digit (rest % 10) ∷ a .done;
         there = put-more p end (a .done) q r (digit (rest % 10) ∷ []) q′ r′ (a .there) (rw is at b);
-        whole = sym (append-assoc (digitsOf (rest / 10)) (digit (rest % 10) ∷ []) (a .done)) ∙ ap (λ (l : List ℕ). l ++ a .done) (sym (digits-step rest some)) ∙ a .whole;
+        whole =
+            sym (append-assoc (digitsOf (rest / 10)) (digit (rest % 10) ∷ []) (a .done))
+            ∙ ap (λ (l : List ℕ). l ++ a .done) (sym (digits-step rest some))
+            ∙ a .whole;
         few = a .few;
         fits = a .fits;
       }
@@ -103,8 +113,9 @@ module _ (p : List ℕ) (end n : ℕ) where
       let whole : a .done ≡ digitsOf n = sym (ap (λ (l : List ℕ). l ++ a .done) (ap digitsOf e ∙ no-digits)) ∙ a .whole in
       rw whole at (a .there)
 
--- the number, with its last digit, which was put in first
-module _ (p : List ℕ) (end n d : ℕ) (is : d ≡ digit (n % 10)) (q : List ℕ) (r : ℕ) (last : Put p end (d ∷ []) q r) (q′ : List ℕ) (r′ rest : ℕ) (none : rest ≤ 0) (a : Spelt q r (n / 10) q′ r′ rest) where
+-- the whole number, with its last digit, which was put in first
+module _ (p : List ℕ) (end n d : ℕ) (is : d ≡ digit (n % 10)) (q : List ℕ) (r : ℕ) (last : Put p end (d ∷ []) q r)
+    (q′ : List ℕ) (r′ rest : ℕ) (none : rest ≤ 0) (a : Spelt q r (n / 10) q′ r′ rest) where
   pub number-put : Put p end (decimal n) q′ r′
   unfolding decimal
   number-put = put-more p end (digit (n % 10) ∷ []) q r (digitsOf (n / 10)) q′ r′ (rw is at last) (spelt-all q r (n / 10) q′ r′ rest none a)

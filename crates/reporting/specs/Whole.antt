@@ -1,9 +1,11 @@
--- The pages are the report: lines by their number are those of subject after subject, item after item, and page after page each line comes once.
+-- The pages are the report. Counted by their number, the lines are those of subject after subject and item after item; and
+-- page after page, each line comes once.
 use mathlib.Core.List.{List, [], _++_, append-assoc, append-nil}
 use mathlib.Core.Logic.{⊎-elim}
 use mathlib.Core.Path.{_≡_, refl, sym, ap, _∙_}
 use Prim.Native.Nat.{ℕ, zero, suc, _+_, _-_, _*_, _/_, _%_, _<_, _≤_}
-use native.Mathlib.Nat.{eq-zero-or-pos, zero-add, add-zero, suc-add, zero-mul, suc-mul, mul-zero, mul-suc, add-mul-div-left, add-mul-mod-self-left, div-eq-of-lt, mod-eq-of-lt}
+use native.Mathlib.Nat.{eq-zero-or-pos, zero-add, add-zero, suc-add, zero-mul, suc-mul, mul-zero, mul-suc}
+use native.Mathlib.Nat.{add-mul-div-left, add-mul-mod-self-left, div-eq-of-lt, mod-eq-of-lt}
 use native.Mathlib.Numerals.{add-one}
 use native.Mathlib.Omega.{arith}
 use borrow.Author.Tests.{ne-eqb}
@@ -40,7 +42,8 @@ module _ (t : Tables) where
   item-lines zero s j h = refl
   item-lines (suc n) s j h =
       let next : suc (j + items * s) ≡ suc j + items * s = omega arith in
-      rw (line-is s j (omega arith), next) (ap (λ (l : List ℕ). reportLine s (suc j) (permissionSet t s 0 (suc j)) ++ l) (item-lines n s (suc j) (omega arith)))
+      rw (line-is s j (omega arith), next)
+      (ap (λ (l : List ℕ). reportLine s (suc j) (permissionSet t s 0 (suc j)) ++ l) (item-lines n s (suc j) (omega arith)))
 
   subject-lines : (n s : ℕ) → linesFrom t (items * s) (n * items) ≡ subjectLines t s n
   unfolding linesFrom subjectLines
@@ -60,7 +63,7 @@ module _ (t : Tables) where
   unfolding linesFrom
   no-lines k n none = rw none
 
-  -- a page, and the lines behind it
+  -- a page and the lines behind it are all lines from line k on
   first-page : (k : ℕ) → page t k ++ linesFrom t (k + pageLines) (lineCount t - (k + pageLines)) ≡ linesFrom t k (lineCount t - k)
   first-page k =
       ⊎-elim
@@ -72,20 +75,22 @@ module _ (t : Tables) where
       ∙ sym (ap (linesFrom t k) rest ∙ lines-split pageLines (lineCount t - (k + pageLines)) k))
       (eq-zero-or-pos (lineCount t - (k + pageLines)))
 
-  -- so many pages that no line is left
+  -- enough pages, so that no line is left, have all lines
   pages-lines : (m k : ℕ) → lineCount t ≤ k + m * pageLines → pagesFrom t k m ≡ linesFrom t k (lineCount t - k)
   unfolding pagesFrom
   pages-lines zero k h = sym (no-lines k (lineCount t - k) (omega arith))
-  pages-lines (suc m) k h = ap (λ (l : List ℕ). page t k ++ l) (pages-lines m (k + pageLines) (omega (arith, suc-mul m pageLines))) ∙ first-page k
+  pages-lines (suc m) k h =
+      ap (λ (l : List ℕ). page t k ++ l) (pages-lines m (k + pageLines) (omega (arith, suc-mul m pageLines))) ∙ first-page k
 
   pub pages-all : (m : ℕ) → lineCount t ≤ m * pageLines → pagesFrom t 0 m ≡ subjectLines t 0 (length (t .subjects))
   pages-all m h =
       let whole : lineCount t - 0 ≡ lineCount t = omega arith in
       pages-lines m 0 (omega arith) ∙ ap (linesFrom t 0) whole ∙ sym all-lines
 
--- The first line, and where the image is accepted all pages, are the report.
+-- The report of an accepted image is the first line and all pages. Of a refused image it is the first line.
 module _ (img : List ℕ) where
-  pub report-accepted : (m : ℕ) → check img ≡ 0 → lineCount (tables img) ≤ m * pageLines → firstLine (check img) ++ pagesFrom (tables img) 0 m ≡ report img
+  pub report-accepted : (m : ℕ) → check img ≡ 0 → lineCount (tables img) ≤ m * pageLines
+      → firstLine (check img) ++ pagesFrom (tables img) 0 m ≡ report img
   unfolding firstLine report
   report-accepted m ok enough = rw (ok, pages-all (tables img) m enough)
 

@@ -1,5 +1,5 @@
-// The report as text, a page at a time: a host prints the first line and then page after page. A page is filled from its end, since the last digit of a number is
-// the first that is known; what it then ends in is the text.
+// The report as text, a page at a time: a host prints the first line and then page after page. A page is filled from its
+// end, because the last digit of a number is the first that is known. The text is then what the page ends in.
 ghost use mathlib.Core.Path.{_≡_};
 ghost use Prim.Native.Nat.{_+_, _-_, _^_, _<_};
 ghost use lib.ListN.{length};
@@ -13,13 +13,15 @@ use model::Layout;
 mod lines;
 mod text;
 
-// The bytes of a page.
+// How many bytes a page has.
 pub const PAGE: usize = 65536;
 
-// The lines of a page, so many that the longest would fit: three numbers of up to twenty digits, two spaces and the end of the line.
+// How many lines a page has at most. So many of the longest lines would still fit: three numbers of up to twenty digits, two
+// spaces and the end of the line.
 pub const PAGE_LINES: u64 = 1040;
 
-// The report's first line, by what the check of the image said: the heading, or the refusal. Answers the byte of the page at which it starts.
+// Writes the report's first line: the heading where the check of the image answered number 0, and the refusal otherwise.
+// Answers the offset in the page at which the line starts.
 pub fn first_line(number: u32, page: &mut [u8; PAGE]) -> usize
     ensures { λ r. ⌜ r ≡ pageSize - length (firstLine number) ⌝ }
     ensures { λ _. ⌜ now (page .exit) ≡ endingIn (now (page .entry)) (firstLine number) ⌝ }
@@ -31,7 +33,8 @@ pub fn first_line(number: u32, page: &mut [u8; PAGE]) -> usize
     put_bytes(page, word_end, b"refused ")
 }
 
-// How many lines come after it: one for each subject and item. The bound lets callers count on by pages without a test.
+// How many lines come after the first: one for each subject and item. The second `ensures` lets callers add the lines of a
+// page to a line's number without a test for overflow.
 pub fn line_count(image: &[u8], layout: Layout) -> u64
     ensures { λ r. ⌜ r ≡ lineCount (tablesBy layout (now (image .entry))) ⌝ }
     ensures { λ r. ⌜ r + 2 ^ 32 < 2 ^ 64 ⌝ }
@@ -41,7 +44,8 @@ pub fn line_count(image: &[u8], layout: Layout) -> u64
     subjects.used as u64 * items.used as u64
 }
 
-// The page of the lines from a number on. Answers the byte of the page at which they start: past the last line, its end.
+// Writes the lines from number `first` on, as many as a page has. Answers the offset in the page at which they start, which
+// is the end of the page where no line is left.
 pub fn lines_page(image: &[u8], layout: Layout, first: u64, page: &mut [u8; PAGE]) -> usize
     ensures { λ r. ⌜ r ≡ pageSize - length (Pages·page (tablesBy layout (now (image .entry))) first) ⌝ }
     ensures { λ _. ⌜ now (page .exit) ≡ endingIn (now (page .entry)) (Pages·page (tablesBy layout (now (image .entry))) first) ⌝ }

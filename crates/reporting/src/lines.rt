@@ -14,7 +14,7 @@ use model::Role;
 use model::Subject;
 use permission::decision::permissions;
 
-// Lines at the end of a page, from the last to the first.
+// Writes lines at the end of a page, from the last line to the first.
 pub fn put_lines(image: &[u8], layout: Layout, first: u64, count: u64, page: &mut [u8]) -> usize
     requires { ⌜ length (now page) ≡ pageSize ⌝ }
     requires { ⌜ (count ≤ pageLines) × (first + count < 2 ^ 64) × (first + count ≤ lineCount (tablesBy layout (now image))) ⌝ }
@@ -30,7 +30,7 @@ pub fn put_lines(image: &[u8], layout: Layout, first: u64, count: u64, page: &mu
     at
 }
 
-// One line, so that it ends before a byte of the page.
+// Writes one line so that it ends before offset `end` of the page.
 fn put_line(image: &[u8], layout: Layout, number: u64, page: &mut [u8], end: usize) -> usize
     requires { ⌜ number < lineCount (tablesBy layout (now image)) ⌝ }
     requires { ⌜ (63 ≤ end) × (end ≤ length (now page)) ⌝ }

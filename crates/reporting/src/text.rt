@@ -1,4 +1,5 @@
-// Text put into bytes so that it ends before a given one. Each function answers where its text starts, which is where the text in front of it ends.
+// Text put into a page so that it ends before a given offset. Each function answers the offset at which its text starts,
+// which is where the text in front of it ends.
 ghost use mathlib.Core.Path.{_≡_};
 ghost use Prim.Native.Nat.{_+_, _%_, _≤_};
 ghost use mathlib.Core.List.{[], _∷_};
@@ -19,7 +20,7 @@ pub fn put_bytes(page: &mut [u8], end: usize, text: &[u8]) -> usize
     at
 }
 
-// A number in decimal, and the byte that comes behind it.
+// A number in decimal, and behind it one byte.
 pub fn put_number(page: &mut [u8], end: usize, number: u64, behind: u8) -> usize
     requires { ⌜ (21 ≤ end) × (end ≤ length (now page)) ⌝ }
     ensures { λ r. ⌜ Put (now (page .entry)) end (endedBy behind number) (now (page .exit)) r ⌝ }
@@ -29,7 +30,7 @@ pub fn put_number(page: &mut [u8], end: usize, number: u64, behind: u8) -> usize
     put_decimal(page, digits_end, number)
 }
 
-// The last digit first.
+// A number in decimal. The last digit is put in first.
 fn put_decimal(page: &mut [u8], end: usize, number: u64) -> usize
     requires { ⌜ (20 ≤ end) × (end ≤ length (now page)) ⌝ }
     ensures { λ r. ⌜ Put (now (page .entry)) end (decimal number) (now (page .exit)) r ⌝ }
@@ -53,7 +54,7 @@ fn put_byte(page: &mut [u8], end: usize, byte: u8) -> usize
     start
 }
 
-// In ASCII.
+// The last digit of a number, in ASCII.
 fn last_digit(number: u64) -> u8
     ensures { λ r. ⌜ r ≡ digit (number % 10) ⌝ }
 {

@@ -1,4 +1,4 @@
--- The rows of a table read from the bytes of all of them: what is not there, or not whole, is the row of zeros.
+-- A row of a table read from the slice of all its rows: a row that is not there, or not whole, is the row of zeros.
 use mathlib.Core.List.{List, []}
 use mathlib.Core.Logic.{⊎-elim}
 use mathlib.Core.Path.{_≡_, refl, sym, ap, _∙_}
@@ -23,10 +23,11 @@ drop-take n m s = ⊎-elim inside past (le-or-lt n (length s))
     past : length s < n → drop n (take (n + m) s) ≡ take m (drop n s)
     past h =
         let short : length (take (n + m) s) ≤ n = simp length-take (omega arith) in
-        rw (drop-of-length-le (take (n + m) s) {i = n} short, drop-of-length-le s {i = n} (omega arith)) (sym (take-all {A = ℕ} m [] (omega arith)))
+        rw (drop-of-length-le (take (n + m) s) {i = n} short, drop-of-length-le s {i = n} (omega arith))
+        (sym (take-all {A = ℕ} m [] (omega arith)))
 
 module _ {A : Type 0} (f : Format A) (law : Lawful f) where
-  -- the first row of bytes is that of their first m, where m is a row or more
+  -- the first row of s is the first row of its first m bytes, if these are a whole row or more
   first-of-take : (m : ℕ) (s : List ℕ) → size f ≤ m → firstRow f (take m s) ≡ firstRow f s
   first-of-take m s enough = ⊎-elim whole partial (le-or-lt (size f) (length s))
     where
@@ -34,7 +35,8 @@ module _ {A : Type 0} (f : Format A) (law : Lawful f) where
       whole h =
           let long : size f ≤ length (take m s) = simp length-take (omega arith) in
           let same : fieldsAt (f .widths) s 0 ≡ fieldsAt (f .widths) (take m s) 0 =
-          ap (λ (b : List ℕ). fieldsAt (f .widths) b 0) (sym (take-append-drop m s)) ∙ fields-front (f .widths) (take m s) (drop m s) 0 (omega arith) in
+          ap (λ (b : List ℕ). fieldsAt (f .widths) b 0) (sym (take-append-drop m s))
+          ∙ fields-front (f .widths) (take m s) (drop m s) 0 (omega arith) in
           whole-row f (take m s) long ∙ ap (f .row) (sym same) ∙ sym (whole-row f s h)
 
       partial : length s < size f → firstRow f (take m s) ≡ firstRow f s
@@ -54,7 +56,8 @@ module _ {A : Type 0} (f : Format A) (law : Lawful f) where
         past h =
             let far : t .used * size f ≤ k * size f = mul-le-mul-right (size f) h in
             let short : length (take (t .used * size f) rest) ≤ k * size f = simp length-take (omega arith) in
-            let empty : drop (k * size f) (take (t .used * size f) rest) ≡ [] = drop-of-length-le (take (t .used * size f) rest) {i = k * size f} short in
+            let empty : drop (k * size f) (take (t .used * size f) rest) ≡ [] =
+            drop-of-length-le (take (t .used * size f) rest) {i = k * size f} short in
             ap (firstRow f) empty ∙ short-row f [] (law .wide) ∙ sym none ∙ sym (row-past f t img d k h)
 
         used : k < t .used → firstRow f (drop (k * size f) (take (t .used * size f) rest)) ≡ getD (rowsIn f t img) k d
@@ -69,7 +72,7 @@ module _ {A : Type 0} (f : Format A) (law : Lawful f) where
             ∙ ap (firstRow f) (drop-drop (k * size f) (t .start) img)
             ∙ sym (row-in f t img d k h)
 
--- The bytes of the rows, as the code takes them. p is the offset behind the rows in use.
+-- The slice of the rows in use, as the code takes it. p is the offset at which these rows end.
 module _ {A : Type 0} (f : Format A) (t : Table) (s : List ℕ) where
   pub rows-none : length s ≤ t .start → [] ≡ rowsSlice f t s
   unfolding rowsSlice
@@ -90,7 +93,7 @@ module _ {A : Type 0} (f : Format A) (t : Table) (s : List ℕ) where
 pub divided : (m n k : ℕ) → n ≡ k → m / n ≡ m / k
 divided m n k e = rw e
 
--- One of them, as the code reads it. m is how many whole rows there are.
+-- One row of such a slice s, as the code reads it. m is the number of whole rows in s.
 module _ {A : Type 0} (f : Format A) (law : Lawful f) (s : List ℕ) (k m : ℕ) (count : m ≡ length s / size f) where
   past-end : m ≤ k → length s < k * size f + size f
   past-end h =
@@ -109,7 +112,7 @@ module _ {A : Type 0} (f : Format A) (law : Lawful f) (s : List ℕ) (k m : ℕ)
       let short : length (drop (k * size f) s) < size f = simp length-drop (omega (arith, law .wide)) in
       e ∙ none ∙ sym (short-row f (drop (k * size f) s) short)
 
-  -- n are the bytes of a row
+  -- n is the size of a row
   module _ (n : ℕ) (wide : n ≡ size f) (there : k < m) where
     pub among-end : k * n + n ≤ length s
     among-end = rw wide (before-end there)
@@ -126,8 +129,9 @@ module _ {A : Type 0} (f : Format A) (law : Lawful f) (s : List ℕ) (k m : ℕ)
         ∙ sym (whole-row f (take (size f) (drop at s)) (omega arith))
         ∙ first-of-take f law (size f) (drop at s) (omega arith)
 
--- The whole rows among those in use: no more than are in use, and past them every row is one of zeros.
-module _ {A : Type 0} (f : Format A) (law : Lawful f) (t : Table) (img rows : List ℕ) (taken : rows ≡ rowsSlice f t img) (m : ℕ) (count : m ≡ length rows / size f) where
+-- The slice has no more whole rows than are in use, and every row past its whole rows is the row of zeros.
+module _ {A : Type 0} (f : Format A) (law : Lawful f) (t : Table) (img rows : List ℕ)
+    (taken : rows ≡ rowsSlice f t img) (m : ℕ) (count : m ≡ length rows / size f) where
   pub whole-few : m ≤ t .used
   unfolding rowsSlice
   whole-few =

@@ -1,4 +1,4 @@
--- A row written field by field, for any widths, is its bytes written at once.
+-- Writing a row field by field gives the same bytes as writing it at once. This holds for any widths of the fields.
 use mathlib.Core.List.{List, [], _∷_, _++_, append-assoc}
 use mathlib.Core.Logic.{⊎-elim}
 use mathlib.Core.Path.{_≡_, sym, ap, _∙_}
@@ -36,7 +36,8 @@ put-length s at a = ⊎-elim inside past (le-or-lt (at + length a) (length s))
     past h = ap length (put-out s at a h)
 
 -- Two puts, the second right behind the first.
-pub put-put : (s : List ℕ) (at : ℕ) (a b : List ℕ) → at + (length a + length b) ≤ length s → putBytes (putBytes s at a) (at + length a) b ≡ putBytes s at (a ++ b)
+pub put-put : (s : List ℕ) (at : ℕ) (a b : List ℕ) → at + (length a + length b) ≤ length s
+    → putBytes (putBytes s at a) (at + length a) b ≡ putBytes s at (a ++ b)
 put-put s at a b h =
     let near : at ≤ length s = omega arith in
     let first : at + length a ≤ length s = omega arith in
@@ -47,18 +48,20 @@ put-put s at a b h =
     let second : at + length a + length b ≤ length q = omega arith in
     let front : take (at + length a) q ≡ take at s ++ a = take-at (take at s ++ a) (drop (at + length a) s) (at + length a) head in
     let behind : drop (at + length a) q ≡ drop (at + length a) s = drop-at (take at s ++ a) (drop (at + length a) s) (at + length a) head in
-    let further : (t : List ℕ) → drop (length b) (drop (at + length a) t) ≡ drop (at + length a + length b) t = λ t. drop-drop (length b) (at + length a) t in
+    let further : (t : List ℕ) → drop (length b) (drop (at + length a) t) ≡ drop (at + length a + length b) t =
+    λ t. drop-drop (length b) (at + length a) t in
     let back : drop (at + length a + length b) q ≡ drop (at + length a + length b) s = rw (← further q, behind, further s) in
     let both : at + length (a ++ b) ≡ at + length a + length b = simp length-append (omega arith) in
     let whole : at + length (a ++ b) ≤ length s = omega arith in
     rw (made, put-in q (at + length a) b second, front, back, put-in s at (a ++ b) whole, both, append-assoc (take at s) a b)
 
--- The fields of a row put one after the other, from a place of s on, make r.
+-- The fields of a row, put into s one after the other from an offset on, make r.
 pub data Put : List ℕ → List ℕ → List ℕ → ℕ → List ℕ → Type 0 where
   none : {s : List ℕ} {at : ℕ} → Put [] [] s at s
   then : {ws vs s q r : List ℕ} {at w v : ℕ} → q ≡ putBytes s at (bytesOf w v) → Put ws vs q (at + w) r → Put (w ∷ ws) (v ∷ vs) s at r
 
-pub fields-put : {ws vs s r : List ℕ} {at : ℕ} → Put ws vs s at r → length vs ≡ length ws → at + sum ws ≤ length s → r ≡ putBytes s at (rowBytes ws vs)
+pub fields-put : {ws vs s r : List ℕ} {at : ℕ} → Put ws vs s at r → length vs ≡ length ws → at + sum ws ≤ length s
+    → r ≡ putBytes s at (rowBytes ws vs)
 fields-put {s = s} {at = at} none counted h = paste-zero s at [] ∙ sym (put-in s at [] h)
 fields-put {s = s} {at = at} (then {ws} {vs} {q = q} {w = w} {v = v} e p) counted h =
     let rest-counted : length vs ≡ length ws = omega arith in

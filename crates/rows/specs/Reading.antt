@@ -1,4 +1,5 @@
--- What the contracts of `rows` cite beside the definitions of `model`: a row from its fields, the bytes of a row, and the bytes of a table's rows.
+-- What the contracts of `rows` cite beside the definitions of `model`: a row from its fields, the slice of a row, and the
+-- slice of a table's rows.
 use mathlib.Core.Bool.{_&&_, cond}
 use mathlib.Core.List.{List, []}
 use Prim.Native.Nat.{ℕ, _+_, _*_}
@@ -12,10 +13,10 @@ module _ {A : Type 0} (f : Format A) where
   abbrev pub rowOf : List ℕ → A
   rowOf s = f .row (fieldsAt (f .widths) s 0)
 
-  -- the bytes of a table's rows in use, as far as they are there
+  -- the slice of a table's rows in use, as far as s has them
   unfoldable pub rowsSlice : Table → List ℕ → List ℕ
   rowsSlice t s = take (t .used * size f) (drop (t .start) s)
 
--- the bytes of row k of a table whose rows have n bytes; none where the row is not in use or runs past the end
+-- the slice of the row with index k, in a table whose rows have n bytes; empty if the row is not in use or runs past the end
 unfoldable pub rowSlice : Table → ℕ → ℕ → List ℕ → List ℕ
 rowSlice t n k s = cond (ltb k (t .used) && leb (t .start + k * n + n) (length s)) (take n (drop (t .start + k * n) s)) []

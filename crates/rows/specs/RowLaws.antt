@@ -19,7 +19,7 @@ use Rattle.laws.specs.Fields.{field-in, field-out, field-empty}
 use Rattle.laws.specs.Rows.{Lawful, row-in, row-past, whole-row, short-row}
 use Rattle.rows.specs.Reading.{rowOf, rowSlice}
 
--- Fields in the front part of bytes are those of the bytes.
+-- Fields that p has are the same in p ++ r.
 
 field-front : (k : ℕ) (p r : List ℕ) (at : ℕ) → at + k ≤ length p → fieldAt k (p ++ r) at ≡ fieldAt k p at
 field-front k p r at h =
@@ -31,7 +31,7 @@ pub fields-front : (ws p r : List ℕ) (at : ℕ) → at + sum ws ≤ length p �
 fields-front [] p r at h = refl
 fields-front (w ∷ ws) p r at h = rw (field-front w p r at (omega arith), fields-front ws p r (at + w) (omega arith))
 
--- The bytes of a row, as the code finds them: n are a row's bytes, and at each offset below m there are so many.
+-- The slice of a row, as the code finds it. n is the size of a row, and n bytes fit at each offset below m.
 module _ (t : Table) (n k : ℕ) (s : List ℕ) where
   pub slice-unused : t .used ≤ k → [] ≡ rowSlice t n k s
   unfolding rowSlice
@@ -48,11 +48,11 @@ module _ (t : Table) (n k : ℕ) (s : List ℕ) where
         let long : t .start + k * n + n - (t .start + k * n) ≡ n = omega arith in
         rw (long, lt-ltb k (t .used) used, le-leb (t .start + k * n + n) (length s) (omega arith))
 
--- A row's offset is near enough that no sum of the code's wraps.
+-- A row's offset is so low that no sum in the code wraps.
 pub product-near : (k n : ℕ) → n ≤ 32 → k * n ≤ k * 32
 product-near k n h = mul-le-mul-left k h
 
--- No bytes are the fields 0.
+-- Fields read from no bytes are 0.
 fields-none : (ws : List ℕ) (at : ℕ) → fieldsAt ws [] at ≡ replicate (length ws) 0
 fields-none [] at = refl
 fields-none (w ∷ ws) at = rw (field-none w at, fields-none ws (at + w))
@@ -61,8 +61,9 @@ fields-none (w ∷ ws) at = rw (field-none w at, fields-none ws (at + w))
     field-none zero at = field-empty [] at
     field-none (suc k) at = field-out (suc k) [] at (omega arith)
 
-module _ {A : Type 0} (f : Format A) (law : Lawful f) (t : Table) (img : List ℕ) (d : A) (none : d ≡ f .row (replicate (length (f .widths)) 0)) (k : ℕ) where
-  -- whole bytes of a row are the row; r is what was read from them
+module _ {A : Type 0} (f : Format A) (law : Lawful f) (t : Table) (img : List ℕ) (d : A)
+    (none : d ≡ f .row (replicate (length (f .widths)) 0)) (k : ℕ) where
+  -- a row in use is the row of zeros if it runs past the end, and otherwise the row of its bytes
   module _ (used : k < t .used) where
     read : getD (rowsIn f t img) k d ≡ firstRow f (drop (t .start + k * size f) img)
     read = row-in f t img d k used
@@ -72,7 +73,8 @@ module _ {A : Type 0} (f : Format A) (law : Lawful f) (t : Table) (img : List �
         let short : length (drop (t .start + k * size f) img) < size f = simp length-drop (omega (arith, law .wide)) in
         none ∙ sym (read ∙ short-row f (drop (t .start + k * size f) img) short)
 
-    pub row-whole : t .start + k * size f + size f ≤ length img → rowOf f (take (size f) (drop (t .start + k * size f) img)) ≡ getD (rowsIn f t img) k d
+    pub row-whole : t .start + k * size f + size f ≤ length img
+        → rowOf f (take (size f) (drop (t .start + k * size f) img)) ≡ getD (rowsIn f t img) k d
     row-whole inside =
         let at : ℕ = t .start + k * size f in
         let long-enough : size f ≤ length (drop at img) = simp length-drop (omega arith) in
@@ -94,21 +96,30 @@ module _ {A : Type 0} (f : Format A) (law : Lawful f) (t : Table) (img : List �
       nothing : rowOf f [] ≡ d
       nothing = ap (f .row) (fields-none (f .widths) 0) ∙ sym none
 
-      past : t .used ≤ k → rowOf f (cond (ltb k (t .used) && leb (t .start + k * size f + size f) (length img)) (take (size f) (drop (t .start + k * size f) img)) []) ≡ getD (rowsIn f t img) k d
+      past : t .used ≤ k
+          → rowOf f
+          (cond (ltb k (t .used) && leb (t .start + k * size f + size f) (length img))
+          (take (size f) (drop (t .start + k * size f) img)) [])
+          ≡ getD (rowsIn f t img) k d
       past h = rw (le-ltb k (t .used) h) (nothing ∙ row-missing (inl h))
 
-      used : k < t .used → rowOf f (cond (ltb k (t .used) && leb (t .start + k * size f + size f) (length img)) (take (size f) (drop (t .start + k * size f) img)) []) ≡ getD (rowsIn f t img) k d
+      used : k < t .used
+          → rowOf f
+          (cond (ltb k (t .used) && leb (t .start + k * size f + size f) (length img))
+          (take (size f) (drop (t .start + k * size f) img)) [])
+          ≡ getD (rowsIn f t img) k d
       used h =
           elim (le-or-lt (t .start + k * size f + size f) (length img)) [
             | inl whole ↦ rw (lt-ltb k (t .used) h, le-leb (t .start + k * size f + size f) (length img) whole) (row-whole h whole)
-            | inr out ↦ rw (lt-ltb k (t .used) h, lt-leb (t .start + k * size f + size f) (length img) out) (nothing ∙ row-missing (inr out))
+            | inr out ↦ rw (lt-ltb k (t .used) h, lt-leb (t .start + k * size f + size f) (length img) out)
+                (nothing ∙ row-missing (inr out))
           ]
 
-  -- as the code reads it: n are the bytes of a row, b what was found of them
+  -- as the code reads it: n is the size of a row, and b is the slice that was found for it
   pub row-read : (n : ℕ) → n ≡ size f → (b : List ℕ) → b ≡ rowSlice t n k img → (r : A) → r ≡ rowOf f b → r ≡ getD (rowsIn f t img) k d
   row-read n wide b found r e = e ∙ ap (rowOf f) (found ∙ ap (λ (m : ℕ). rowSlice t m k img) wide) ∙ sliced
 
--- Item n is row n - 1, and 0 is no item.
+-- Item n is the row with index n - 1, and 0 is no item.
 module _ (rows : List ItemRow) (r : ItemRow) where
   pub item-none : (n : ℕ) → n ≡ 0 → r ≡ noItem → r ≡ itemIn rows n
   item-none n z e = rw z e

@@ -1,5 +1,5 @@
-// Rows read from their tables, by number. A row that is not in use, or that runs past the end, reads as the row of zeros. A row's bytes are taken as one slice, so that it is
-// asked once whether they are there.
+// Reads rows from their tables, by index. A row that is not in use, or that runs past the end, reads as the row of zeros.
+// A row's bytes are taken as one slice, so that the code tests only once whether they are there.
 ghost use mathlib.Core.Path.{_≡_};
 ghost use Prim.Native.Nat.{_*_, _/_, _≤_};
 ghost use lib.ListN.{length, getD, drop};
@@ -46,7 +46,7 @@ pub fn line_at(bytes: &[u8], layout: Layout, n: u32) -> LineRow
     line_in(row, layout)
 }
 
-// Item n is row n - 1, and 0 is no item.
+// Item n is the row with index n - 1, and 0 is no item.
 pub fn item_at(bytes: &[u8], layout: Layout, item: Item) -> ItemRow
     ensures { λ r. ⌜ r ≡ itemIn (rowsIn itemFormat (layout .items) (now (bytes .entry))) (item .0) ⌝ }
 {
@@ -58,7 +58,8 @@ pub fn item_at(bytes: &[u8], layout: Layout, item: Item) -> ItemRow
     item_in(row)
 }
 
-// The bytes of row n of a table whose rows have so many bytes: all of them, or none where the row is not in use or runs past the end.
+// The slice of the row with index n, in a table whose rows have `size` bytes. The slice is empty if the row is not in
+// use or runs past the end.
 fn row_bytes<'a>(bytes: &'a [u8], table: Table, size: usize, n: u32) -> &'a [u8]
     requires { ⌜ size ≤ 32 ⌝ }
     ensures { λ r. ⌜ now r ≡ rowSlice table size n (now (bytes .entry)) ⌝ }
@@ -74,7 +75,7 @@ fn row_bytes<'a>(bytes: &'a [u8], table: Table, size: usize, n: u32) -> &'a [u8]
     &bytes[at..end]
 }
 
-// The row of the fields that some bytes begin with. A field that is not there is 0, so no bytes are the row of zeros.
+// The row whose fields some bytes begin with. A field that is not there is 0, so an empty slice is the row of zeros.
 fn subject_in(row: &[u8], layout: Layout) -> SubjectRow
     ensures { λ r. ⌜ r ≡ rowOf (subjectFormat (widthOf layout)) (now (row .entry)) ⌝ }
 {
@@ -115,8 +116,8 @@ fn item_in(row: &[u8]) -> ItemRow
     ItemRow::new(Subject(field(row, 0)), Item(field(row, 4)), field(row, 8))
 }
 
-// The bytes of the subjects' rows in use, as far as they are there. A pass or a climb takes them once, and then asks of each row no more than whether it is among
-// them.
+// The slice of the subjects' rows in use, as far as the bytes have them. A pass or a climb takes it once. For each row it
+// then only tests whether the slice has this row.
 pub fn subject_rows<'a>(bytes: &'a [u8], layout: Layout) -> &'a [u8]
     ensures { λ r. ⌜ now r ≡ rowsSlice (subjectFormat (widthOf layout)) (layout .subjects) (now (bytes .entry)) ⌝ }
 {
@@ -132,15 +133,15 @@ pub fn subject_rows<'a>(bytes: &'a [u8], layout: Layout) -> &'a [u8]
     &bytes[start..end]
 }
 
-// How many whole rows such bytes are.
+// How many whole rows such a slice has.
 pub fn whole_subjects(rows: &[u8], layout: Layout) -> usize
     ensures { λ r. ⌜ r ≡ length (now (rows .entry)) / size (subjectFormat (widthOf layout)) ⌝ }
 {
     rows.len() / subject_size(layout)
 }
 
-// Row n of such bytes. A row that is not among them, or not whole, is the row of zeros. It is asked by the number, not by the byte: of a pass or a climb how many
-// rows there are is then computed once.
+// The row with index n of such a slice. A row that the slice does not have, or not whole, is the row of zeros. The test
+// compares the index and not an offset, so that a pass or a climb computes the number of rows only once.
 pub fn subject_among(rows: &[u8], layout: Layout, n: u32) -> SubjectRow
     ensures { λ r. ⌜ r
         ≡ firstRow (subjectFormat (widthOf layout)) (drop (n * size (subjectFormat (widthOf layout))) (now (rows .entry))) ⌝ }

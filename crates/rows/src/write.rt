@@ -1,4 +1,4 @@
-// Rows written at a place. A row that does not fit whole is not written.
+// Writes rows at an offset. A row that does not fit whole is not written.
 ghost use mathlib.Core.Path.{_≡_};
 ghost use Rattle.model.specs.Image.{rowInBytes, widthOf, subjectFormat, grantFormat, lineFormat, itemFormat};
 ghost use Rattle.fields.specs.Edits.{putBytes};

@@ -18,7 +18,8 @@ use model::Item;
 use model::Role;
 use model::Subject;
 
-// The cases of document 01, each on the sample workshop afresh, several where it leaves numbers out; and then one that is done of each call that it leaves out.
+// The cases of document 01, each on a new image of the sample workshop. Where the paper leaves numbers out, there are
+// several cases. Then one case that is done, for each call that is not done in any of those.
 pub fn print_changes() {
     print_define(1, 0, 2, 255);
     print_define(1, 0, 3, 255);
@@ -42,7 +43,7 @@ pub fn print_changes() {
     print_hand_over(0, 4, 5);
 }
 
-// A subject that was defined is asked for what it holds.
+// Where the subject is defined, its operation set is printed too.
 fn print_define(caller: u32, role: u32, parent: u32, privileges: u32) {
     let mut image = workshop::image();
     let answer = ask_define(&mut image, caller, role, parent, privileges);
@@ -163,7 +164,7 @@ fn print_create(caller: u32, list: u32, flags: u32) {
     end_line();
 }
 
-// Whoever has bound an item is asked for its set on it.
+// Where the item is bound, the caller's permission set on it is printed too.
 fn print_bind(caller: u32, item: u32, list: u32) {
     let mut image = workshop::image();
     let answer = ask_bind(&mut image, caller, item, list);

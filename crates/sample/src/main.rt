@@ -1,5 +1,6 @@
-// Runs the calls on the sample workshop of document 01, and every case that the paper leaves to a test program. Each line has what was asked and what came back: the number and
-// the result, and behind a call that may write also the number of the check of the image afterwards.
+// Runs the calls on the sample workshop of document 01, and every case that the paper leaves to a test program. Each line
+// has what was asked and what came back: the number and the result. After a call that may write, the line also has the
+// number that `check` answers for the image afterwards.
 mod changes;
 mod printing;
 mod questions;

@@ -14,7 +14,7 @@ use model::Item;
 use model::Role;
 use model::Subject;
 
-// The twelve sets, and one case of each other call.
+// The twelve permission sets, and one case of each other call that asks but `check`.
 pub fn print_questions(image: &[u8]) {
     print_permission(image, 2, 0, 2);
     print_permission(image, 2, 0, 3);
@@ -36,7 +36,7 @@ pub fn print_questions(image: &[u8]) {
     end_line();
 }
 
-// 35 bytes; 36 with no subject; 48 with the custodian only; 65,537.
+// Checks of 35 bytes, of 36 bytes without a subject, of 48 bytes with only the custodian, and of 65,537 bytes.
 pub fn print_checks() {
     let short = [0u8; 35];
     let mut empty = [0u8; 36];
@@ -51,7 +51,7 @@ pub fn print_checks() {
     print_check(b"check, zeros, bytes ", &long);
 }
 
-// The header of an image with room for subjects alone.
+// The header of an image with capacity for subjects alone.
 fn write_header(image: &mut [u8], subjects: u32, length: u32) {
     put_field(image, 0, subjects);
     put_field(image, 4, 36);
@@ -73,7 +73,7 @@ pub fn print_permission(image: &[u8], subject: u32, role: u32, item: u32) {
     end_line();
 }
 
-// A question and its answer, which may follow on a line.
+// A question and its answer, without the end of the line: they may follow something else on it.
 pub fn ask_permission(image: &[u8], subject: u32, role: u32, item: u32) {
     print_number(b"permission_set subject ", subject);
     print_number(b" role ", role);
@@ -87,7 +87,7 @@ pub fn ask_operations(image: &[u8], subject: u32, role: u32) {
     print_answer(operation_set(image, Subject(subject), Role(role)));
 }
 
-// The rows of a list: how many, at which byte they start, and how many bytes the part of the image has.
+// The rows of a list: how many, at which offset they start, and how many bytes their slice of the image has.
 fn print_lines(image: &[u8], list: u32) {
     print_number(b"list_count list ", list);
     print_answer(list_count(image, Item(list)));

@@ -38,7 +38,7 @@ const FIELDS: [u32; 79] = [
     2,
     3,
     1,
-    // a row to spare
+    // a free row
     0,
     0,
     0,
@@ -48,7 +48,7 @@ const FIELDS: [u32; 79] = [
     2,
     2,
     3,
-    // a row to spare
+    // a free row
     0,
     0,
     0,
@@ -79,7 +79,7 @@ const FIELDS: [u32; 79] = [
     3,
     0,
     1,
-    // a row to spare
+    // a free row
     0,
     0,
     0,
@@ -100,13 +100,13 @@ const FIELDS: [u32; 79] = [
     2,
     0,
     0,
-    // a row to spare
+    // a free row
     0,
     0,
     0,
 ];
 
-// The workshop afresh.
+// A new image of the workshop.
 pub fn image() -> [u8; LENGTH] {
     let mut image = [0u8; LENGTH];
     write(&mut image);

@@ -1,4 +1,4 @@
--- The sorted place of a key, counted row by row, and the row that stands there. For any table.
+-- The insertion index of a key, counted row by row, and the row at this index. For any table.
 use mathlib.Core.Bool.{Bool, true, false, not, cond}
 use mathlib.Core.List.{List}
 use mathlib.Core.Option.{none, some}
@@ -44,7 +44,8 @@ module _ {A : Type 0} (f : Format A) (key : A → List ℕ) (t : Table) (img k :
       → Counted (n + 1)
   unfolding insertionIndex
   counted-next n x b c h e l low =
-      let more : insertionIndex key k (drop n (rowsIn f t img)) ≡ suc (insertionIndex key k (drop (suc n) (rowsIn f t img))) = rw (rows-next f t img d n x h e, ← l, not-false b low) in
+      let more : insertionIndex key k (drop n (rowsIn f t img)) ≡ suc (insertionIndex key k (drop (suc n) (rowsIn f t img))) =
+      rw (rows-next f t img d n x h e, ← l, not-false b low) in
       let one : n + 1 ≡ suc n = omega arith in
       rw one (record { inside = omega arith; lower = omega (arith, c .lower) })
 
@@ -55,7 +56,7 @@ module _ {A : Type 0} (f : Format A) (key : A → List ℕ) (t : Table) (img k :
       let end : insertionIndex key k (drop n (rowsIn f t img)) ≡ 0 = rw (drop-of-length-le (rowsIn f t img) {i = n} past) in
       omega (arith, c .lower)
 
-  -- A search looks at the row at the place.
+  -- A search looks at the row at the insertion index n.
   module _ (n : ℕ) (at : n ≡ insertionIndex key k (rowsIn f t img)) where
     pub found-past : t .used ≤ n → none ≡ find key k (rowsIn f t img)
     found-past h =
@@ -67,7 +68,8 @@ module _ {A : Type 0} (f : Format A) (key : A → List ℕ) (t : Table) (img k :
       looked =
           let there : insertionIndex key k (rowsIn f t img) < length (rowsIn f t img) = rw (rows-count f t img, ← at) h in
           let row : getD (rowsIn f t img) (insertionIndex key k (rowsIn f t img)) d ≡ x = rw (← at, e) in
-          find-by-index key k (rowsIn f t img) d ∙ rw (lt-ltb (insertionIndex key k (rowsIn f t img)) (length (rowsIn f t img)) there, row, l)
+          find-by-index key k (rowsIn f t img) d
+          ∙ rw (lt-ltb (insertionIndex key k (rowsIn f t img)) (length (rowsIn f t img)) there, row, l)
 
       pub found-other : not b ≡ true → none ≡ find key k (rowsIn f t img)
       found-other other = sym (looked ∙ rw (not-true b other))

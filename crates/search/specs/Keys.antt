@@ -21,7 +21,7 @@ module _ (x y : ℕ) (xs ys : List ℕ) (b : Bool) where
   pub same-equal : x ≡ y → b ≡ same xs ys → b ≡ same (x ∷ xs) (y ∷ ys)
   same-equal h e = rw (eq-eqb x y h) e
 
--- the last numbers
+-- the last numbers of two keys
 module _ (x y : ℕ) (b : Bool) where
   pub before-last : b ≡ ltb x y → b ≡ before (x ∷ []) (y ∷ [])
   before-last e = e ∙ sym (rw and-false (or-false (ltb x y)))

@@ -1,4 +1,4 @@
--- RowIndices as code finds them.
+-- Row indices as the code finds them.
 use mathlib.Core.Bool.{Bool, true, false, _||_, not, cond, false≢true}
 use mathlib.Core.List.{List}
 use mathlib.Core.Option.{Option, none, some}
@@ -16,14 +16,14 @@ use Rattle.search.specs.declared.RowIndex.{RowIndex}
 use Rattle.search.specs.declared.RowIndex.the-variants.{Existing, New}
 use Rattle.search.specs.RowIndices.{isExisting, rowIndex}
 
--- A search's answer.
+-- What a search finds. n is the insertion index of the key.
 module _ {A : Type 0} (key : A → List ℕ) (k : List ℕ) (xs : List A) where
-  module _ (n : ℕ) (ranked : n ≡ insertionIndex key k xs) where
+  module _ (n : ℕ) (is-index : n ≡ insertionIndex key k xs) where
     pub index-new : none ≡ find key k xs → New n ≡ rowIndex key k xs
-    index-new missing = rw (← missing, ranked)
+    index-new missing = rw (← missing, is-index)
 
     index-existing : (x : A) → some x ≡ find key k xs → Existing n ≡ rowIndex key k xs
-    index-existing x found = rw (← found, ranked)
+    index-existing x found = rw (← found, is-index)
 
   pub over-there : isExisting (rowIndex key k xs) ≡ isThere (find key k xs)
   over-there = go (find key k xs)
@@ -32,7 +32,7 @@ module _ {A : Type 0} (key : A → List ℕ) (k : List ℕ) (xs : List A) where
       go none = refl
       go (some y) = refl
 
--- the row at the place was read, and has the key
+-- the row at the insertion index was read, and has the key
 pub index-read : {A : Type 0} (f : Format A) (t : Table) (img : List ℕ) (key : A → List ℕ) (k : List ℕ) (d : A) (n : ℕ) (x : A) (b : Bool)
     → n ≡ insertionIndex key k (rowsIn f t img)
     → n < t .used
@@ -40,10 +40,10 @@ pub index-read : {A : Type 0} (f : Format A) (t : Table) (img : List ℕ) (key :
     → b ≡ same (key x) k
     → not b ≡ false
     → Existing n ≡ rowIndex key k (rowsIn f t img)
-index-read f t img key k d n x b ranked within read e has =
-    index-existing key k (rowsIn f t img) n ranked x (found-row f key t img k d n ranked x b within read e has)
+index-read f t img key k d n x b is-index within read e has =
+    index-existing key k (rowsIn f t img) n is-index x (found-row f key t img k d n is-index x b within read e has)
 
--- What callees say of the spot that a search told, as t, they say of the row that it finds.
+-- The code computes t from the row index that a search found. It is the same as computed from the row that `find` finds.
 module _ {A : Type 0} (key : A → List ℕ) (k : List ℕ) (index : RowIndex) (t : Bool) where
   pub index-found : (f : Format A) (table : Table) (img : List ℕ) (cap : ℕ)
       → index ≡ rowIndex key k (rowsIn f table img)
@@ -51,12 +51,15 @@ module _ {A : Type 0} (key : A → List ℕ) (k : List ℕ) (index : RowIndex) (
       → t ≡ (isThere (find key k (rowsIn f table img)) || ltb (length (rowsIn f table img)) cap)
   index-found f table img cap found e = e ∙ rw (found, over-there key k (rowsIn f table img), rows-count f table img)
 
--- The case that a search's answer is: over the row at the key's place, which is there, or new.
+-- What the two cases of a row index say: `Existing` has the insertion index of a key that is there, and with `New` the
+-- key is not there.
 module _ {A : Type 0} (key : A → List ℕ) (k : List ℕ) (xs : List A) (index : RowIndex) (n : ℕ) (so : index ≡ rowIndex key k xs) where
   existing-both : index ≡ Existing n → (n ≡ insertionIndex key k xs) × (isThere (find key k xs) ≡ true)
   existing-both case = go (find key k xs) (sym case ∙ so)
     where
-      go : (o : Option A) → Existing n ≡ cond (isThere o) (Existing (insertionIndex key k xs)) (New (insertionIndex key k xs)) → (n ≡ insertionIndex key k xs) × (isThere o ≡ true)
+      go : (o : Option A)
+          → Existing n ≡ cond (isThere o) (Existing (insertionIndex key k xs)) (New (insertionIndex key k xs))
+          → (n ≡ insertionIndex key k xs) × (isThere o ≡ true)
       go none e = absurd (false≢true cc)
       go (some y) e = (cc, refl)
 
@@ -69,6 +72,8 @@ module _ {A : Type 0} (key : A → List ℕ) (k : List ℕ) (xs : List A) (index
   pub new-missing : index ≡ New n → isThere (find key k xs) ≡ false
   new-missing case = go (find key k xs) (sym case ∙ so)
     where
-      go : (o : Option A) → New n ≡ cond (isThere o) (Existing (insertionIndex key k xs)) (New (insertionIndex key k xs)) → isThere o ≡ false
+      go : (o : Option A)
+          → New n ≡ cond (isThere o) (Existing (insertionIndex key k xs)) (New (insertionIndex key k xs))
+          → isThere o ≡ false
       go none e = refl
       go (some y) e = absurd (false≢true cc)

@@ -1,4 +1,4 @@
--- Where a row with a key goes in its sorted table, by the definitions of `model`.
+-- The row index of a key in its sorted table, by the definitions of `model`.
 use mathlib.Core.Bool.{Bool, true, false, cond}
 use mathlib.Core.List.{List}
 use Rattle.model.specs.Lists.{isThere}
@@ -11,6 +11,6 @@ abbrev pub isExisting : RowIndex → Bool
 isExisting (Existing n) = true
 isExisting (New n) = false
 
--- over the row that has the key, or new at its sorted place
+-- the index of the row that has the key, or the insertion index of a new row
 abbrev pub rowIndex : {A : Type 0} → (A → List ℕ) → List ℕ → List A → RowIndex
 rowIndex key k xs = cond (isThere (find key k xs)) (Existing (insertionIndex key k xs)) (New (insertionIndex key k xs))

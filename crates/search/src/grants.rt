@@ -13,7 +13,7 @@ use model::SoughtGrant;
 use model::Subject;
 use rows::read::grant_at;
 
-// The row's key is lower than this one.
+// The row's key is lower than this key.
 pub fn grant_before(row: GrantRow, receiver: Subject, role: Role) -> bool
     ensures { λ r. ⌜ r ≡ before (grantKey row) (receiver .0 ∷ role .0 ∷ []) ⌝ }
 {
@@ -23,7 +23,7 @@ pub fn grant_before(row: GrantRow, receiver: Subject, role: Role) -> bool
     row.role.0 < role.0
 }
 
-// The row's key is this one.
+// The row's key is this key.
 pub fn is_grant(row: GrantRow, receiver: Subject, role: Role) -> bool
     ensures { λ r. ⌜ r ≡ same (grantKey row) (receiver .0 ∷ role .0 ∷ []) ⌝ }
 {
@@ -33,7 +33,7 @@ pub fn is_grant(row: GrantRow, receiver: Subject, role: Role) -> bool
     row.role.0 == role.0
 }
 
-// The sorted place of a key: the number of rows with a lower one. The pass ends at the first row that is not lower.
+// The insertion index of a key: the number of rows with a lower key. The pass ends at the first row whose key is not lower.
 pub fn grant_insertion_index(image: &[u8], layout: Layout, receiver: Subject, role: Role) -> u32
     ensures { λ r. ⌜ r ≡ insertionIndex grantKey (receiver .0 ∷ role .0 ∷ []) (tablesBy layout (now (image .entry)) .grants) ⌝ }
 {
@@ -64,7 +64,7 @@ pub fn find_grant(image: &[u8], layout: Layout, receiver: Subject, role: Role) -
     SoughtGrant::Grant(row)
 }
 
-// Where the row with a key goes. One search answers it, and the questions of a call and its change share the answer.
+// The row index of a key. One search finds it, and the questions of a call and its change share it.
 pub fn grant_index(image: &[u8], layout: Layout, receiver: Subject, role: Role) -> RowIndex
     ensures { λ r. ⌜ r ≡ rowIndex grantKey (receiver .0 ∷ role .0 ∷ []) (tablesBy layout (now (image .entry)) .grants) ⌝ }
 {

@@ -1,12 +1,14 @@
-// Rows of the two sorted tables by their keys, and where a row with a key goes. A function that searches takes the image and a layout, answers by the tables
-// that the layout cuts out of the image, and is total for any layout; the others compare a key or look at a kind.
+// Finds rows of the two sorted tables by their keys, and the row index of a key. A function that searches takes the
+// image and a layout, answers from the tables that the layout cuts out of the image, and is total for any layout. The
+// other functions compare a key or look at a kind.
 ghost use mathlib.Core.Path.{_≡_};
 ghost use Rattle.search.specs.RowIndices.{isExisting};
 
 pub mod grants;
 pub mod lines;
 
-// Where a row with a key goes: over the row with this number, which has the key, or in front of the row with this number, where none has it.
+// What the search for a key finds: the index of the existing row with this key or, if no row has the key, the insertion
+// index of a new one.
 pub enum RowIndex {
     Existing(u32),
     New(u32),

@@ -13,7 +13,7 @@ use model::SoughtLine;
 use model::Subject;
 use rows::read::line_at;
 
-// The row's key is lower than this one.
+// The row's key is lower than this key.
 pub fn line_before(row: LineRow, list: Item, kind: u32, subject: Subject) -> bool
     ensures { λ r. ⌜ r ≡ before (lineKey row) (list .0 ∷ kind ∷ subject .0 ∷ []) ⌝ }
 {
@@ -26,7 +26,7 @@ pub fn line_before(row: LineRow, list: Item, kind: u32, subject: Subject) -> boo
     row.subject.0 < subject.0
 }
 
-// The row's key is this one.
+// The row's key is this key.
 pub fn is_line(row: LineRow, list: Item, kind: u32, subject: Subject) -> bool
     ensures { λ r. ⌜ r ≡ same (lineKey row) (list .0 ∷ kind ∷ subject .0 ∷ []) ⌝ }
 {
@@ -52,7 +52,7 @@ pub fn kind_fits(kind: u32, subject: Subject) -> bool
     subject.0 == 0
 }
 
-// The sorted place of a key: the number of rows with a lower one. The pass ends at the first row that is not lower.
+// The insertion index of a key: the number of rows with a lower key. The pass ends at the first row whose key is not lower.
 pub fn line_insertion_index(
     image: &[u8],
     layout: Layout,
@@ -95,7 +95,7 @@ pub fn find_line(
     SoughtLine::Line(row)
 }
 
-// Where the row with a key goes. One search answers it, and the questions of a call and its change share the answer.
+// The row index of a key. One search finds it, and the questions of a call and its change share it.
 pub fn line_index(image: &[u8], layout: Layout, list: Item, kind: u32, subject: Subject) -> RowIndex
     ensures { λ r. ⌜ r ≡ rowIndex lineKey (list .0 ∷ kind ∷ subject .0 ∷ []) (tablesBy layout (now (image .entry)) .lines) ⌝ }
 {

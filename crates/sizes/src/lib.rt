@@ -1,5 +1,6 @@
-// What depends on the bytes of a privilege field: the field itself, the sizes of the rows and where they lie. All else that reads or
-// writes rows goes through here, but for the arrays in which `store` makes the bytes of a new row.
+// Everything that depends on the size of a privilege field: the field itself, the sizes of the rows and their offsets.
+// All other code that reads or writes rows goes through here, except for the arrays in which `store` makes the bytes of
+// a new row.
 ghost use mathlib.Core.Path.{_≡_};
 ghost use Prim.Native.Nat.{_+_, _*_, _≤_, _<_, _^_};
 ghost use Rattle.model.specs.Image.{bytesOf, fieldAt, size, subjectFormat, grantFormat, lineFormat, itemFormat, widthOf};
@@ -63,7 +64,7 @@ pub fn item_size(layout: Layout) -> usize
     ItemRow::SIZE
 }
 
-// The places of rows, numbered from 0. The bound lets callers add a row's size to a place without a test.
+// The offset of the row with index n. The bound lets callers add a row's size to an offset without a test.
 pub fn subject_offset(layout: Layout, n: u32) -> usize
     ensures { λ r. ⌜ r ≡ layout .subjects .start + n * size (subjectFormat (widthOf layout)) ⌝ }
     ensures { λ r. ⌜ r < 2 ^ 40 ⌝ }

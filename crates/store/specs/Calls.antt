@@ -1,5 +1,5 @@
--- A call that changes one table: what its questions come to, and that the row stored, taken out or written anew leaves the image that the call's definition
--- gives. One law for each kind of change, over the format and the key of the table.
+-- A call that changes one table: what its questions decide, and that storing, removing or replacing the row leaves the
+-- image that the call's definition gives. There is one law for each kind of change, for any format and key of the table.
 use mathlib.Core.Bool.{false, _||_, false≢true}
 use mathlib.Core.List.{List, [], _∷_, _++_}
 use mathlib.Core.Path.{_≡_, refl, sym, ap, _∙_}
@@ -25,7 +25,8 @@ use Rattle.store.specs.declared.Storing.{Storing}
 use Rattle.store.specs.declared.Storing.the-variants as store
 use Rattle.store.specs.declared.Removing.{Removing}
 use Rattle.store.specs.declared.Removing.the-variants as remove
-use Rattle.store.specs.Stores.{itemsCounter, storing, removing, storingNumber, removingNumber, storedAt, withRow, withoutRow, overItem}
+use Rattle.store.specs.Stores.{itemsCounter, storing, removing, storingNumber, removingNumber}
+use Rattle.store.specs.Stores.{storedAt, withRow, withoutRow, overItem}
 use Rattle.store.specs.Stored.{Stored, items-stored, appended, item-stored, put-stored, cut-stored}
 
 store-apart : Apart store.At store.Refused
@@ -34,7 +35,7 @@ store-apart = record { differ = λ x n e. false≢true cc; one-yes = λ x y e. c
 remove-apart : Apart remove.Row remove.Refused
 remove-apart = record { differ = λ x n e. false≢true cc; one-yes = λ x y e. cc; one-no = λ m n e. cc }
 
--- The questions before a store: how code comes to each case, and what the case o says that it was told.
+-- The questions before a row is stored: how the code arrives at each case, and what follows from the case o that it is handed.
 module _ (m : ℕ) (index : RowIndex) where
   pub store-refused : (n : ℕ) → eqb n 0 ≡ false → n ≡ m → store.Refused n ≡ storing m index
   store-refused = case-no store.At store.Refused m index
@@ -45,7 +46,7 @@ module _ (m : ℕ) (index : RowIndex) where
   pub store-at : (s : RowIndex) → 0 ≡ m → s ≡ index → store.At s ≡ storing m index
   store-at = case-yes store.At store.Refused m index
 
-  -- the number of the case is the first no's
+  -- the number of the case is m, that of the first question answered no
   pub store-also : (o : Storing) → o ≡ storing m index → (o ≡ storing m index) × (storingNumber o ≡ m)
   store-also = case-number store.At store.Refused m index storingNumber refl refl
 
@@ -62,7 +63,7 @@ module _ (m : ℕ) (index : RowIndex) where
     pub store-index : (s : RowIndex) → o ≡ store.At s → s ≡ index
     store-index s case = yes-says store.At store.Refused m index store-apart o is s case .1
 
--- The same before a removal.
+-- The same before a row is removed.
 module _ (m row : ℕ) where
   pub remove-refused : (n : ℕ) → eqb n 0 ≡ false → n ≡ m → remove.Refused n ≡ removing m row
   remove-refused = case-no remove.Row remove.Refused m row
@@ -89,10 +90,11 @@ module _ (m row : ℕ) where
     pub remove-row : (r : ℕ) → o ≡ remove.Row r → r ≡ row
     remove-row r case = yes-says remove.Row remove.Refused m row remove-apart o is r case .1
 
--- The image afterwards, of a call c that is done.
+-- The image after a call c that answers 0.
 module _ {A : Type 0} (f : Format A) (table : Table) (counter cap : ℕ) (img : List ℕ) (bytesFor : List A → List ℕ)
     (stored : Accepted img → Stored f table counter cap (rowsIn f table img) img bytesFor)
-    (c : Change) (a : Answer) (answered : a ≡ act img c .answer) (m : ℕ) (said : a ≡ answer 0 m) (bytes : (i : ℕ) → Fits w8 (getD img i 0)) (new : List ℕ) where
+    (c : Change) (a : Answer) (answered : a ≡ act img c .answer) (m : ℕ) (said : a ≡ answer 0 m)
+    (bytes : (i : ℕ) → Fits w8 (getD img i 0)) (new : List ℕ) where
   abbrev rows : List A
   rows = rowsIn f table img
 
@@ -111,7 +113,7 @@ module _ {A : Type 0} (f : Format A) (table : Table) (counter cap : ℕ) (img : 
   row-more x leaves-so free e =
       done e (appended f table counter cap img bytesFor (stored accepted) x (free (was-passed img c a answered m said)) ∙ sym leaves-so)
 
-  -- a row put at its place in a sorted table, and one cut out; d is any row
+  -- a row stored at its row index in a sorted table, and one removed from it; d is any row
   module _ (key : A → List ℕ) (d : A) where
     pub row-set : (x : A) (index : RowIndex)
         → encode (after (tables img) c) ≡ bytesFor (put key x rows)
@@ -132,21 +134,23 @@ module _ {A : Type 0} (f : Format A) (table : Table) (counter cap : ℕ) (img : 
         → new ≡ act img c .image
     row-cut k n leaves-so there few found e =
         done (e ∙ ap (λ (i : ℕ). withoutRow f counter table i img) found)
-        (cut-stored f key d table counter cap img bytesFor (stored accepted) k (there (was-passed img c a answered m said)) (few accepted) ∙ sym leaves-so)
+        (cut-stored f key d table counter cap img bytesFor (stored accepted) k (there (was-passed img c a answered m said)) (few accepted)
+        ∙ sym leaves-so)
 
--- an item written anew
-module _ (img : List ℕ) (c : Change) (a : Answer) (answered : a ≡ act img c .answer) (m : ℕ) (said : a ≡ answer 0 m) (bytes : (i : ℕ) → Fits w8 (getD img i 0))
-    (new : List ℕ) where
-  pub item-anew : (i : ℕ) (x : ItemRow)
+-- an item's row replaced
+module _ (img : List ℕ) (c : Change) (a : Answer) (answered : a ≡ act img c .answer) (m : ℕ) (said : a ≡ answer 0 m)
+    (bytes : (i : ℕ) → Fits w8 (getD img i 0)) (new : List ℕ) where
+  pub item-replaced : (i : ℕ) (x : ItemRow)
       → after (tables img) c ≡ withItems (tables img) (setItem (tables img .items) i x)
       → (Passed (questions (tables img) c) → T (itemUsed (tables img .items) i))
       → new ≡ overItem (layoutOf img .items) i x img
       → new ≡ act img c .image
   unfolding tablesBy
-  item-anew i x leaves-so used e =
+  item-replaced i x leaves-so used e =
       let accepted : Accepted img = was-accepted img c a answered m said (slice-bytes img bytes) in
       leaves img c a answered m said new
       (e
-      ∙ item-stored (layoutOf img .items) itemsCounter (tables img .capacities .items) img (λ rows. encode (withItems (tables img) rows)) (items-stored img accepted) i x
+      ∙ item-stored (layoutOf img .items) itemsCounter (tables img .capacities .items) img
+      (λ rows. encode (withItems (tables img) rows)) (items-stored img accepted) i x
       (used (was-passed img c a answered m said))
       ∙ ap encode (sym leaves-so))

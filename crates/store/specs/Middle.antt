@@ -1,4 +1,4 @@
--- Edits in the middle of bytes that are written as parts one after the other.
+-- Edits in the middle of bytes that are written as several lists one after the other.
 use mathlib.Core.List.{List, _++_, append-assoc}
 use mathlib.Core.Path.{_≡_}
 use Prim.Native.Nat.{ℕ, _+_, _-_, _≤_}
@@ -20,7 +20,7 @@ put-mid u r v a at here long =
     rw (← append-assoc u r v) (drop-at (u ++ r) v (at + length a) head) in
     rw (le-leb (at + length a) (length (u ++ (r ++ v))) fits, front, behind, append-assoc u a v)
 
--- a row put in behind u, where z is free behind v
+-- a row inserted behind u, where the bytes z behind v are free
 pub insert-mid : (u v z q row : List ℕ) (at end : ℕ) → length u ≡ at → at + length v ≡ end → length z ≡ length row
     → inFirst (end + length row) (λ p. insertBytes p at row) (u ++ (v ++ (z ++ q))) ≡ u ++ (row ++ (v ++ q))
 unfolding insertBytes
@@ -35,9 +35,19 @@ insert-mid u v z q row at end here ends free =
     let moved : length (u ++ v ++ z) - length row ≡ end = omega arith in
     let kept : take end (u ++ v ++ z) ≡ u ++ v = take-at (u ++ v) z end uv in
     let tail : drop at (u ++ v) ≡ v = drop-at u v at here in
-    rw (first, rest, le-leb (at + length row) (length (u ++ v ++ z)) fits, front, moved, kept, tail, append-assoc (u ++ row) v q, append-assoc u row (v ++ q))
+    rw (
+      first,
+      rest,
+      le-leb (at + length row) (length (u ++ v ++ z)) fits,
+      front,
+      moved,
+      kept,
+      tail,
+      append-assoc (u ++ row) v q,
+      append-assoc u row (v ++ q),
+    )
 
--- the bytes r taken out behind u; v closes up, and as many zeros are left behind it
+-- the bytes r removed behind u: v moves down, and as many zeros follow it
 pub remove-mid : (u r v q : List ℕ) (at end n : ℕ) → length u ≡ at → length r ≡ n → at + n + length v ≡ end
     → inFirst end (λ p. removeBytes p at n) (u ++ (r ++ (v ++ q))) ≡ u ++ (v ++ (replicate n 0 ++ q))
 unfolding removeBytes
@@ -50,4 +60,12 @@ remove-mid u r v q at end n here long ends =
     let fits : at + n ≤ length (u ++ r ++ v) = omega arith in
     let front : take at (u ++ r ++ v) ≡ u = rw (append-assoc u r v) (take-at u (r ++ v) at here) in
     let behind : drop (at + n) (u ++ r ++ v) ≡ v = drop-at (u ++ r) v (at + n) ur in
-    rw (first, rest, le-leb (at + n) (length (u ++ r ++ v)) fits, front, behind, append-assoc (u ++ v) (replicate n 0) q, append-assoc u v (replicate n 0 ++ q))
+    rw (
+      first,
+      rest,
+      le-leb (at + n) (length (u ++ r ++ v)) fits,
+      front,
+      behind,
+      append-assoc (u ++ v) (replicate n 0) q,
+      append-assoc u v (replicate n 0 ++ q),
+    )

@@ -1,4 +1,4 @@
--- The moves from what the callees make, with the tests as the code makes them: no sum that could wrap.
+-- The moves follow from what the callees do. The tests are stated as the code makes them, without a sum that could wrap.
 use mathlib.Core.List.{List, _++_}
 use mathlib.Core.Path.{_≡_, _∙_}
 use Prim.Native.Nat.{ℕ, _+_, _-_, _*_, _%_, _^_, _<_, _≤_}
@@ -50,15 +50,23 @@ module _ (s : List ℕ) (counter used at end : ℕ) where
         let one : 1 ≤ used = omega arith in
         rw (e, made, le-leb end (length s) h, le-leb 1 used one)
 
--- Over a row or as a new one, as the code does it. n is the number that it was told, at and end the offsets.
+-- A row stored over an existing one or as a new one, as the code does it. n is the index that it is handed, at and end
+-- are the offsets.
 module _ (counter : ℕ) (t : Table) (index : RowIndex) (row s new : List ℕ) (n at : ℕ) (here : at ≡ t .start + n * length row) where
   pub stored-existing : index ≡ Existing n → new ≡ putBytes s at row → new ≡ rowStored counter t index row s
   stored-existing over e = e ∙ rw (over, here)
 
-  pub stored-new : (end : ℕ) → end ≡ t .start + t .used * length row → index ≡ New n → new ≡ rowAdded s counter (t .used) at end row → new ≡ rowStored counter t index row s
+  pub stored-new : (end : ℕ)
+      → end ≡ t .start + t .used * length row
+      → index ≡ New n
+      → new ≡ rowAdded s counter (t .used) at end row
+      → new ≡ rowStored counter t index row s
   stored-new end there fresh e = e ∙ rw (fresh, here, there)
 
-pub row-out : (s new : List ℕ) (counter used start n k at end : ℕ) → at ≡ start + n * k → end ≡ start + used * k → new ≡ rowTaken s counter used at end k
+pub row-out : (s new : List ℕ) (counter used start n k at end : ℕ)
+    → at ≡ start + n * k
+    → end ≡ start + used * k
+    → new ≡ rowTaken s counter used at end k
     → new ≡ rowTaken s counter used (start + n * k) (start + used * k) k
 row-out s new counter used start n k at end here there e = e ∙ rw (here, there)
 

@@ -1,5 +1,6 @@
--- One table among the bytes of tables: a row put in, taken out or written anew in its block, and its count, give the bytes of the tables with that row.
--- Stated for the blocks in front of the table and behind it, so one law serves all four.
+-- One table among the bytes of all tables. A row inserted, removed or replaced in its block, together with its count,
+-- gives the bytes of the tables after this change. The laws name only the blocks in front of the table and those behind
+-- it, so that one law serves all four tables.
 use mathlib.Core.List.{List, [], _∷_, _++_, append-assoc}
 use mathlib.Core.Path.{_≡_, refl, sym, ap, _∙_}
 use Prim.Native.Nat.{ℕ, suc, _+_, _-_, _*_, _≤_}
@@ -58,7 +59,7 @@ body-split : (front bs : List Block) → bodyOf (front ++ bs) ≡ bodyOf front +
 body-split [] bs = refl
 body-split (b ∷ front) bs = rw (body-split front bs, append-assoc (b .bytes) (bodyOf front) (bodyOf bs))
 
--- Where the table starts, and the byte of its count.
+-- The offset at which the table starts, and the offset of its count.
 
 module _ (front back : List Block) where
   abbrev pub startOf : ℕ
@@ -67,16 +68,21 @@ module _ (front back : List Block) where
   abbrev pub counterOf : ℕ
   counterOf = length front * 8
 
-  -- a table of so many bytes, with n rows in use and the bytes s
+  -- the bytes between a table's count and its start; then all bytes, where the table has n rows in use and the bytes s
   abbrev between : ℕ → List ℕ
   between extent = words (startOf ∷ headerOf (startOf + extent) back) ++ bodyOf front
 
   abbrev pub holding : ℕ → ℕ → List ℕ → List ℕ
   holding extent n s = words (fieldsOf headerSize front) ++ (bytesOf 4 n ++ (between extent ++ (s ++ bodyOf back)))
 
-  pub around : (b : Block) → words (headerOf headerSize (front ++ b ∷ back)) ++ bodyOf (front ++ b ∷ back) ≡ holding (b .extent) (b .used) (b .bytes)
+  pub around : (b : Block)
+      → words (headerOf headerSize (front ++ b ∷ back)) ++ bodyOf (front ++ b ∷ back) ≡ holding (b .extent) (b .used) (b .bytes)
   around b =
-      rw (header-split headerSize front (b ∷ back), words-append (fieldsOf headerSize front) (headerOf startOf (b ∷ back)), body-split front (b ∷ back))
+      rw (
+        header-split headerSize front (b ∷ back),
+        words-append (fieldsOf headerSize front) (headerOf startOf (b ∷ back)),
+        body-split front (b ∷ back),
+      )
       (simp append-assoc)
 
   module _ (count : length front + length back ≡ 3) (sized : All Sized front) (extent : ℕ) where
@@ -117,8 +123,8 @@ module _ (front back : List Block) where
 
     recount : (n m : ℕ) (s : List ℕ) → putBytes (holding extent n s) counterOf (bytesOf 4 m) ≡ holding extent m s
     recount n m s =
-        put-mid (words (fieldsOf headerSize front)) (bytesOf 4 n) (between extent ++ (s ++ bodyOf back)) (bytesOf 4 m) counterOf counter-here
-        (bytes-length 4 n ∙ sym (bytes-length 4 m))
+        put-mid (words (fieldsOf headerSize front)) (bytesOf 4 n) (between extent ++ (s ++ bodyOf back)) (bytesOf 4 m)
+        counterOf counter-here (bytes-length 4 n ∙ sym (bytes-length 4 m))
 
     pub put-there : (n : ℕ) (u r q a : List ℕ) → length r ≡ length a
         → putBytes (holding extent n (u ++ (r ++ q))) (startOf + length u) a ≡ holding extent n (u ++ (a ++ q))
@@ -128,25 +134,43 @@ module _ (front back : List Block) where
         ∙ sym (two-pieces n u a q)
 
     pub insert-there : (n : ℕ) (u v z q row : List ℕ) (end : ℕ) → startOf + length u + length v ≡ end → length z ≡ length row
-        → rowAdded (holding extent n (u ++ (v ++ (z ++ q)))) counterOf n (startOf + length u) end row ≡ holding extent (n + 1) (u ++ (row ++ (v ++ q)))
+        → rowAdded (holding extent n (u ++ (v ++ (z ++ q)))) counterOf n (startOf + length u) end row
+        ≡ holding extent (n + 1) (u ++ (row ++ (v ++ q)))
     unfolding rowAdded
     insert-there n u v z q row end ends free =
         let at : ℕ = startOf + length u in
-        let long : length (ahead n ++ u ++ (v ++ (z ++ (q ++ bodyOf back)))) ≡ startOf + length u + (length v + (length z + length (q ++ bodyOf back))) =
-        rw (length-append (ahead n ++ u) (v ++ (z ++ (q ++ bodyOf back))), length-append v (z ++ (q ++ bodyOf back)), length-append z (q ++ bodyOf back), u-ends n u) in
+        let long : length (ahead n ++ u ++ (v ++ (z ++ (q ++ bodyOf back))))
+        ≡ startOf + length u + (length v + (length z + length (q ++ bodyOf back))) =
+        rw (
+          length-append (ahead n ++ u) (v ++ (z ++ (q ++ bodyOf back))),
+          length-append v (z ++ (q ++ bodyOf back)),
+          length-append z (q ++ bodyOf back),
+          u-ends n u,
+        ) in
         let fits : end + length row ≤ length (ahead n ++ u ++ (v ++ (z ++ (q ++ bodyOf back)))) = omega arith in
-        let edited : inFirst (end + length row) (λ p. insertBytes p at row) (ahead n ++ u ++ (v ++ (z ++ (q ++ bodyOf back)))) ≡ holding extent n (u ++ (row ++ (v ++ q))) =
+        let edited : inFirst (end + length row) (λ p. insertBytes p at row) (ahead n ++ u ++ (v ++ (z ++ (q ++ bodyOf back))))
+        ≡ holding extent n (u ++ (row ++ (v ++ q))) =
         insert-mid (ahead n ++ u) v z (q ++ bodyOf back) row at end (u-ends n u) ends free ∙ sym (three-pieces n u row v q) in
-        rw (three-pieces n u v z q, le-leb (end + length row) (length (ahead n ++ u ++ (v ++ (z ++ (q ++ bodyOf back))))) fits, edited) (recount n (n + 1) (u ++ (row ++ (v ++ q))))
+        rw (three-pieces n u v z q, le-leb (end + length row) (length (ahead n ++ u ++ (v ++ (z ++ (q ++ bodyOf back))))) fits, edited)
+        (recount n (n + 1) (u ++ (row ++ (v ++ q))))
 
     pub remove-there : (n : ℕ) (u r v q : List ℕ) (end k : ℕ) → 1 ≤ n → length r ≡ k → startOf + length u + k + length v ≡ end
-        → rowTaken (holding extent n (u ++ (r ++ (v ++ q)))) counterOf n (startOf + length u) end k ≡ holding extent (n - 1) (u ++ (v ++ (replicate k 0 ++ q)))
+        → rowTaken (holding extent n (u ++ (r ++ (v ++ q)))) counterOf n (startOf + length u) end k
+        ≡ holding extent (n - 1) (u ++ (v ++ (replicate k 0 ++ q)))
     unfolding rowTaken
     remove-there n u r v q end k some wide ends =
         let at : ℕ = startOf + length u in
-        let long : length (ahead n ++ u ++ (r ++ (v ++ (q ++ bodyOf back)))) ≡ startOf + length u + (length r + (length v + length (q ++ bodyOf back))) =
-        rw (length-append (ahead n ++ u) (r ++ (v ++ (q ++ bodyOf back))), length-append r (v ++ (q ++ bodyOf back)), length-append v (q ++ bodyOf back), u-ends n u) in
+        let long : length (ahead n ++ u ++ (r ++ (v ++ (q ++ bodyOf back))))
+        ≡ startOf + length u + (length r + (length v + length (q ++ bodyOf back))) =
+        rw (
+          length-append (ahead n ++ u) (r ++ (v ++ (q ++ bodyOf back))),
+          length-append r (v ++ (q ++ bodyOf back)),
+          length-append v (q ++ bodyOf back),
+          u-ends n u,
+        ) in
         let fits : end ≤ length (ahead n ++ u ++ (r ++ (v ++ (q ++ bodyOf back)))) = omega arith in
-        let edited : inFirst end (λ p. removeBytes p at k) (ahead n ++ u ++ (r ++ (v ++ (q ++ bodyOf back)))) ≡ holding extent n (u ++ (v ++ (replicate k 0 ++ q))) =
+        let edited : inFirst end (λ p. removeBytes p at k) (ahead n ++ u ++ (r ++ (v ++ (q ++ bodyOf back))))
+        ≡ holding extent n (u ++ (v ++ (replicate k 0 ++ q))) =
         remove-mid (ahead n ++ u) r v (q ++ bodyOf back) at end k (u-ends n u) wide ends ∙ sym (three-pieces n u v (replicate k 0) q) in
-        rw (three-pieces n u r v q, le-leb end (length (ahead n ++ u ++ (r ++ (v ++ (q ++ bodyOf back))))) fits, le-leb 1 n some, edited) (recount n (n - 1) (u ++ (v ++ (replicate k 0 ++ q))))
+        rw (three-pieces n u r v q, le-leb end (length (ahead n ++ u ++ (r ++ (v ++ (q ++ bodyOf back))))) fits, le-leb 1 n some, edited)
+        (recount n (n - 1) (u ++ (v ++ (replicate k 0 ++ q))))

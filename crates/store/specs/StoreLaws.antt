@@ -1,4 +1,4 @@
--- The stores from what the callees make.
+-- The stores follow from what the callees do.
 use mathlib.Core.Bool.{true}
 use mathlib.Core.List.{List}
 use mathlib.Core.Path.{_≡_, refl, ap, _∙_}
@@ -19,7 +19,7 @@ use Rattle.store.specs.Moves.{rowTaken, rowStored}
 use Rattle.store.specs.Stores.{storedAt, withRow, withoutRow, overItem}
 
 module _ {A : Type 0} (f : Format A) (law : Lawful f) (counter : ℕ) (t : Table) (s new : List ℕ) where
-  -- a row written over the first of the bytes z
+  -- a row written over the first bytes of z
   row-first : (x : A) (z : List ℕ) → leb (size f) (length z) ≡ true → take (size f) (putBytes z 0 (rowInBytes f x)) ≡ rowInBytes f x
   unfolding putBytes
   row-first x z cap =
@@ -48,10 +48,13 @@ module _ {A : Type 0} (f : Format A) (law : Lawful f) (counter : ℕ) (t : Table
       → new ≡ withRow f counter t k x s
   row-added k = row-stored (New k)
 
-  pub row-removed : (n k : ℕ) → k ≡ size f → new ≡ rowTaken s counter (t .used) (t .start + n * k) (t .start + t .used * k) k → new ≡ withoutRow f counter t n s
+  pub row-removed : (n k : ℕ)
+      → k ≡ size f
+      → new ≡ rowTaken s counter (t .used) (t .start + n * k) (t .start + t .used * k) k
+      → new ≡ withoutRow f counter t n s
   row-removed n k sized e = e ∙ rw sized
 
--- item n is row n - 1, and 0 is none
+-- item n is the row with index n - 1, and 0 is no item
 module _ (t : Table) (s new : List ℕ) (i : ℕ) (x : ItemRow) where
   pub item-none : i ≡ 0 → s ≡ overItem t i x s
   item-none z = rw z

@@ -1,4 +1,4 @@
--- An accepted image: a row put into one of its tables, taken out or written anew gives the bytes of the tables with that row.
+-- An accepted image: a row inserted into one of its tables, removed or replaced gives the bytes of the tables after this change.
 use mathlib.Core.Bool.{_||_, cond}
 use mathlib.Core.List.{List, [], _∷_, _++_}
 use mathlib.Core.Option.{Option, none, some}
@@ -14,7 +14,8 @@ use Rattle.model.specs.declared.Layout.{Layout}
 use Rattle.model.specs.declared.ItemRow.{ItemRow}
 use Rattle.model.specs.Lists.{All, isThere}
 use Rattle.model.specs.Sorted.{find, insertionIndex, put, cut}
-use Rattle.model.specs.Image.{Tables, Format, Block, widthOf, widthIn, layoutOf, tables, rowsIn, subjectFormat, grantFormat, lineFormat, itemFormat, noItem, itemUsed, blocks, blockOf, encode}
+use Rattle.model.specs.Image.{Tables, Format, Block, widthOf, widthIn, layoutOf, tables, rowsIn}
+use Rattle.model.specs.Image.{subjectFormat, grantFormat, lineFormat, itemFormat, noItem, itemUsed, blocks, blockOf, encode}
 use Rattle.model.specs.Calls.{withSubjects, withGrants, withLines, withItems, setItem}
 use Rattle.model.specs.Questions.{Accepted}
 use Rattle.laws.specs.WellFormed.{Fitting, fitting}
@@ -24,18 +25,24 @@ use Rattle.laws.specs.Back.{encode-back, tables-well-formed}
 use Rattle.laws.specs.There.{Sized, sizes, lay, layout-there}
 use Rattle.search.specs.declared.RowIndex.the-variants.{Existing, New}
 use Rattle.search.specs.RowIndices.{rowIndex}
-use Rattle.store.specs.Stores.{storedAt, subjectsCounter, grantsCounter, linesCounter, itemsCounter, withRow, withoutRow, overRow, overItem}
+use Rattle.store.specs.Stores.{storedAt, subjectsCounter, grantsCounter, linesCounter, itemsCounter}
+use Rattle.store.specs.Stores.{withRow, withoutRow, overRow, overItem}
 use Rattle.store.specs.Splices.{startOf, counterOf, around}
 use Rattle.store.specs.RowSplices.{whole, row-added, row-taken, row-over}
 
--- What the three stores make of a table of an image that holds the rows xs: the bytes that stand for the rows afterwards.
-pub record Stored {A : Type 0} (f : Format A) (table : Table) (counter cap : ℕ) (xs : List A) (img : List ℕ) (bytesFor : List A → List ℕ) : Type 0 where
-  pub row-in : (k : ℕ) (x : A) → k ≤ length xs → length xs < cap → withRow f counter table k x img ≡ bytesFor (take k xs ++ x ∷ drop k xs)
-  pub row-out : (k : ℕ) (d : A) → k < length xs → length xs ≤ cap → withoutRow f counter table k img ≡ bytesFor (take k xs ++ drop (suc k) xs)
-  pub row-anew : (k : ℕ) (d x : A) → k < length xs → overRow f table k x img ≡ bytesFor (take k xs ++ x ∷ drop (suc k) xs)
+-- What the three changes make of an image whose table holds the rows xs: the bytes that stand for the rows afterwards.
+pub record Stored {A : Type 0} (f : Format A) (table : Table) (counter cap : ℕ) (xs : List A) (img : List ℕ)
+    (bytesFor : List A → List ℕ) : Type 0 where
+  pub row-in : (k : ℕ) (x : A) → k ≤ length xs → length xs < cap
+      → withRow f counter table k x img ≡ bytesFor (take k xs ++ x ∷ drop k xs)
+  pub row-out : (k : ℕ) (d : A) → k < length xs → length xs ≤ cap
+      → withoutRow f counter table k img ≡ bytesFor (take k xs ++ drop (suc k) xs)
+  pub row-replaced : (k : ℕ) (d x : A) → k < length xs
+      → overRow f table k x img ≡ bytesFor (take k xs ++ x ∷ drop (suc k) xs)
 
--- They do so where the table lies between the blocks in front of it and those behind it.
-module _ {A : Type 0} (f : Format A) (law : Lawful f) (front back : List Block) (count : length front + length back ≡ 3) (sized : All Sized front) (cap : ℕ) where
+-- They do so if the table stands between the blocks in front of it and those behind it.
+module _ {A : Type 0} (f : Format A) (law : Lawful f) (front back : List Block)
+    (count : length front + length back ≡ 3) (sized : All Sized front) (cap : ℕ) where
   abbrev holds : List A → List ℕ
   holds = whole f law front back count sized cap
 
@@ -48,14 +55,17 @@ module _ {A : Type 0} (f : Format A) (law : Lawful f) (front back : List Block) 
   stored-between img xs table bytesFor is hold used start =
       let now-is : img ≡ holds xs = is ∙ hold xs in
       record {
-        row-in = λ k x within less. rw (now-is, used, start) (row-added f law front back count sized cap xs k x within less) ∙ sym (hold (take k xs ++ x ∷ drop k xs));
-        row-out = λ k d within few. rw (now-is, used, start) (row-taken f law front back count sized cap xs k d within few) ∙ sym (hold (take k xs ++ drop (suc k) xs));
-        row-anew = λ k d x within. rw (now-is, start) (row-over f law front back count sized cap xs k d within x) ∙ sym (hold (take k xs ++ x ∷ drop (suc k) xs));
+        row-in = λ k x within less. rw (now-is, used, start) (row-added f law front back count sized cap xs k x within less)
+            ∙ sym (hold (take k xs ++ x ∷ drop k xs));
+        row-out = λ k d within few. rw (now-is, used, start) (row-taken f law front back count sized cap xs k d within few)
+            ∙ sym (hold (take k xs ++ drop (suc k) xs));
+        row-replaced = λ k d x within. rw (now-is, start) (row-over f law front back count sized cap xs k d within x)
+            ∙ sym (hold (take k xs ++ x ∷ drop (suc k) xs));
       }
 
--- So it is with the four tables of an image that is the bytes of fitting tables.
+-- They do so for the four tables of an image that is the bytes of fitting tables.
 module _ (t : Tables) (good : Fitting t) (img : List ℕ) (is : img ≡ encode t) where
-  -- a number of its layout is the one that the blocks make
+  -- a number of the image's layout is the one that the blocks give
   number-is : {n : ℕ} (number : Layout → ℕ) → number (lay t good) ≡ n → number (layoutOf img) ≡ n
   number-is number e = ap (λ (s : List ℕ). number (layoutOf s)) is ∙ ap number (layout-there t good) ∙ e
 
@@ -132,7 +142,7 @@ module _ (img : List ℕ) (accepted : Accepted img) where
       (λ rows. encode (withItems t rows))
   items-stored = items-in t good img is
 
--- A row appended, as subjects and items are, and an item written anew.
+-- A row appended, as subjects and items are, and an item's row replaced.
 
 module _ {A : Type 0} (f : Format A) (table : Table) (counter cap : ℕ) (img : List ℕ) (bytesFor : List A → List ℕ)
     (stored : Stored f table counter cap (rowsIn f table img) img bytesFor) where
@@ -155,11 +165,11 @@ pub item-stored : (table : Table) (counter cap : ℕ) (img : List ℕ) (bytesFor
 item-stored table counter cap img bytesFor stored zero x used = absurd used
 item-stored table counter cap img bytesFor stored (suc n) x used =
     let there : n < length (rowsIn itemFormat table img) = ltb→lt n (length (rowsIn itemFormat table img)) used in
-    stored .row-anew n noItem x there ∙ ap bytesFor (sym (set-split (rowsIn itemFormat table img) n x there))
+    stored .row-replaced n noItem x there ∙ ap bytesFor (sym (set-split (rowsIn itemFormat table img) n x there))
 
--- A row stored at its spot and a row taken out there, in a table of an accepted image.
-module _ {A : Type 0} (f : Format A) (key : A → List ℕ) (d : A) (table : Table) (counter cap : ℕ) (img : List ℕ) (bytesFor : List A → List ℕ)
-    (stored : Stored f table counter cap (rowsIn f table img) img bytesFor) where
+-- A row stored at its row index and a row removed at its index, in a table of an accepted image.
+module _ {A : Type 0} (f : Format A) (key : A → List ℕ) (d : A) (table : Table) (counter cap : ℕ) (img : List ℕ)
+    (bytesFor : List A → List ℕ) (stored : Stored f table counter cap (rowsIn f table img) img bytesFor) where
   abbrev xs : List A
   xs = rowsIn f table img
 
@@ -168,15 +178,22 @@ module _ {A : Type 0} (f : Format A) (key : A → List ℕ) (d : A) (table : Tab
   put-stored x free = go (find key (key x) xs) refl free
     where
       go : (o : Option A) → find key (key x) xs ≡ o → T (isThere o || ltb (length xs) cap)
-          → storedAt f counter table (cond (isThere o) (Existing (insertionIndex key (key x) xs)) (New (insertionIndex key (key x) xs))) x img ≡ bytesFor (put key x xs)
+          → storedAt f counter table
+          (cond (isThere o) (Existing (insertionIndex key (key x) xs)) (New (insertionIndex key (key x) xs))) x img
+          ≡ bytesFor (put key x xs)
       go none e u =
-          stored .row-in (insertionIndex key (key x) xs) x (index-le key (key x) xs) (ltb→lt (length xs) cap u) ∙ ap bytesFor (sym (put-new key x xs e))
+          stored .row-in (insertionIndex key (key x) xs) x (index-le key (key x) xs) (ltb→lt (length xs) cap u)
+          ∙ ap bytesFor (sym (put-new key x xs e))
       go (some y) e u =
-          stored .row-anew (insertionIndex key (key x) xs) d x (found-index key (key x) xs y e) ∙ ap bytesFor (sym (put-over key x xs y e))
+          stored .row-replaced (insertionIndex key (key x) xs) d x (found-index key (key x) xs y e)
+          ∙ ap bytesFor (sym (put-over key x xs y e))
 
-  pub cut-stored : (k : List ℕ) → T (isThere (find key k xs)) → length xs ≤ cap → withoutRow f counter table (insertionIndex key k xs) img ≡ bytesFor (cut key k xs)
+  pub cut-stored : (k : List ℕ) → T (isThere (find key k xs)) → length xs ≤ cap
+      → withoutRow f counter table (insertionIndex key k xs) img ≡ bytesFor (cut key k xs)
   cut-stored k there few = go (find key k xs) refl there
     where
-      go : (o : Option A) → find key k xs ≡ o → T (isThere o) → withoutRow f counter table (insertionIndex key k xs) img ≡ bytesFor (cut key k xs)
+      go : (o : Option A) → find key k xs ≡ o → T (isThere o)
+          → withoutRow f counter table (insertionIndex key k xs) img ≡ bytesFor (cut key k xs)
       go none e u = absurd u
-      go (some y) e u = stored .row-out (insertionIndex key k xs) d (found-index key k xs y e) few ∙ ap bytesFor (sym (cut-found key k xs y e))
+      go (some y) e u =
+          stored .row-out (insertionIndex key k xs) d (found-index key k xs y e) few ∙ ap bytesFor (sym (cut-found key k xs y e))

@@ -1,4 +1,4 @@
--- One row of a table added, taken out or written anew, as bytes. A table's count stands at a byte of the header.
+-- One row of a table added, removed or replaced, as bytes. A table's count stands at an offset in the header.
 use mathlib.Core.Bool.{cond}
 use mathlib.Core.List.{List}
 use Prim.Native.Nat.{ℕ, zero, suc, _+_, _*_}
@@ -15,7 +15,7 @@ use Rattle.store.specs.declared.Removing.{Removing}
 use Rattle.store.specs.declared.Removing.the-variants as remove
 use Rattle.store.specs.Moves.{rowAdded, rowTaken}
 
--- the bytes of the counts in the header: its fields 0, 2, 4 and 6
+-- the offsets of the counts in the header: its fields 0, 2, 4 and 6
 abbrev pub subjectsCounter : ℕ
 subjectsCounter = 0
 
@@ -29,35 +29,35 @@ abbrev pub itemsCounter : ℕ
 itemsCounter = 24
 
 module _ {A : Type 0} (f : Format A) where
-  -- where row n of a table stands
+  -- the offset of the row with index n of a table
   abbrev pub rowOffset : Table → ℕ → ℕ
   rowOffset t n = t .start + n * size f
 
-  -- x put in as row n
+  -- x inserted as the row with index n
   abbrev pub withRow : ℕ → Table → ℕ → A → List ℕ → List ℕ
   withRow counter t n x s = rowAdded s counter (t .used) (rowOffset t n) (rowOffset t (t .used)) (rowInBytes f x)
 
-  -- row n taken out
+  -- the row with index n removed
   abbrev pub withoutRow : ℕ → Table → ℕ → List ℕ → List ℕ
   withoutRow counter t n s = rowTaken s counter (t .used) (rowOffset t n) (rowOffset t (t .used)) (size f)
 
-  -- x in the place of row n
+  -- x written over the row with index n
   abbrev pub overRow : Table → ℕ → A → List ℕ → List ℕ
   overRow t n x s = putBytes s (rowOffset t n) (rowInBytes f x)
 
--- x in the place of item i: item n is row n - 1, and 0 is no item
+-- x written over item i: item n is the row with index n - 1, and 0 is no item
 abbrev pub overItem : Table → ℕ → ItemRow → List ℕ → List ℕ
 overItem t zero x s = s
 overItem t (suc n) x s = overRow itemFormat t n x s
 
 module _ {A : Type 0} (f : Format A) where
-  -- a row stored at a spot
+  -- a row stored at a row index
   abbrev pub storedAt : ℕ → Table → RowIndex → A → List ℕ → List ℕ
   storedAt counter t (Existing n) x s = overRow f t n x s
   storedAt counter t (New n) x s = withRow f counter t n x s
 
--- What the questions of a call come to: n is the number of the first no. Where there is none, a row that is set goes to its spot, and a row that is removed is the one
--- with the number that the search told.
+-- What the questions of a call decide. n is the number of the first question answered no. Where there is none, a row
+-- that is set goes to its row index, and the row that is removed is the one at the index that the search found.
 
 abbrev pub storing : ℕ → RowIndex → Storing
 storing n index = cond (eqb n 0) (store.At index) (store.Refused n)

@@ -1,5 +1,6 @@
-// Rows stored in the tables of an image and taken out of them, each with its count in the header. A new subject or item is the table's last row; a grant or a
-// line goes to the spot that a search found. No function asks whether a row is free: the questions before a call do.
+// Stores rows in the tables of an image and removes them, together with the count in the header. A new subject or item
+// becomes the last row of its table. A grant or a line goes to the row index that a search found. No function asks
+// whether there is a free row: the questions before a call do.
 ghost use mathlib.Core.Path.{_≡_};
 ghost use Rattle.model.specs.Image.{widthOf, subjectFormat, grantFormat, lineFormat, itemFormat};
 ghost use Rattle.store.specs.Stores.{subjectsCounter, grantsCounter, linesCounter, itemsCounter};
@@ -24,13 +25,13 @@ use sizes::subject_size;
 
 mod moves;
 
-// What the questions of a call that sets a row come to: where the row goes, or the number of the refusal.
+// What the questions of a call that sets a row decide: the row index at which it is stored, or the refusal.
 pub enum Storing {
     At(RowIndex),
     Refused(u32),
 }
 
-// What the questions of a call that removes a row come to: which row, or the number of the refusal.
+// What the questions of a call that removes a row decide: the index of this row, or the refusal.
 pub enum Removing {
     Row(u32),
     Refused(u32),
@@ -60,7 +61,7 @@ pub fn add_item(image: &mut [u8], layout: Layout, row: ItemRow)
     store_item(image, layout, RowIndex::New(table.used), row);
 }
 
-// An item's row anew. 0 is no item.
+// Replaces an item's row. 0 is no item.
 pub fn replace_item(image: &mut [u8], layout: Layout, item: Item, row: ItemRow)
     ensures { λ _. ⌜ now (image .exit) ≡ overItem (layout .items) (item .0) row (now (image .entry)) ⌝ }
 {

@@ -1,4 +1,5 @@
-// A row stored in a table or taken out of it, with the count in the header: for every table, told only bytes and plain numbers.
+// Stores a row in a table or removes it, together with the count in the header. This serves every table: it is handed
+// only bytes and plain numbers.
 ghost use mathlib.Core.Path.{_≡_};
 ghost use Prim.Native.Nat.{_+_, _*_, _≤_, _<_};
 ghost use lib.ListN.{length, take};
@@ -12,7 +13,7 @@ use model::Table;
 use search::RowIndex;
 use std::num::wrapping_add_u32;
 
-// A row of so many bytes stored at a spot. The bytes that are lent begin with it and may be more.
+// Stores a row of `size` bytes at a row index. The bytes that are lent begin with the row, and may be more.
 pub fn store_row(
     image: &mut [u8],
     counter: usize,
@@ -28,7 +29,7 @@ pub fn store_row(
     store_whole(image, counter, table, index, &bytes[..size]);
 }
 
-// Over the row that is there, or put in as a new one.
+// Writes a row over the existing one, or inserts it as a new one.
 fn store_whole(image: &mut [u8], counter: usize, table: Table, index: RowIndex, row: &[u8])
     requires { ⌜ length (now row) ≤ 32 ⌝ }
     ensures { λ _. ⌜ now (image .exit) ≡ rowStored counter table index (now (row .entry)) (now (image .entry)) ⌝ }
@@ -46,7 +47,7 @@ fn store_whole(image: &mut [u8], counter: usize, table: Table, index: RowIndex, 
     }
 }
 
-// Row n of a table taken out.
+// Removes the row with index n from a table.
 pub fn take_row(image: &mut [u8], counter: usize, table: Table, size: usize, n: u32)
     requires { ⌜ size ≤ 32 ⌝ }
     ensures { λ _. ⌜ now (image .exit)
@@ -62,7 +63,7 @@ pub fn take_row(image: &mut [u8], counter: usize, table: Table, size: usize, n: 
     );
 }
 
-// Where row n of a table begins.
+// The offset of the row with index n of a table.
 fn offset_of(table: Table, size: usize, n: u32) -> usize
     requires { ⌜ size ≤ 32 ⌝ }
     ensures { λ r. ⌜ r ≡ table .start + n * size ⌝ }
@@ -70,7 +71,8 @@ fn offset_of(table: Table, size: usize, n: u32) -> usize
     table.start as usize + n as usize * size
 }
 
-// A row put in at a byte: the rows in use from there to their end move up into the free row behind them, and no byte further on is touched.
+// Inserts a row at an offset. The rows in use from there to their end move up into the free row behind them, and no byte
+// further on changes.
 fn add_row(image: &mut [u8], counter: usize, used: u32, at: usize, end: usize, row: &[u8])
     ensures { λ _. ⌜ now (image .exit) ≡ rowAdded (now (image .entry)) counter used at end (now (row .entry)) ⌝ }
 {
@@ -82,7 +84,7 @@ fn add_row(image: &mut [u8], counter: usize, used: u32, at: usize, end: usize, r
     put_field(image, counter, wrapping_add_u32(used, 1));
 }
 
-// The row at a byte taken out: the rows in use behind it close up, and the row that this frees at their end is left zero.
+// Removes the row at an offset. The rows in use behind it move down, and the row that this frees at their end becomes zero.
 fn close_row(image: &mut [u8], counter: usize, used: u32, at: usize, end: usize, size: usize)
     ensures { λ _. ⌜ now (image .exit) ≡ rowTaken (now (image .entry)) counter used at end size ⌝ }
 {

@@ -1,5 +1,6 @@
--- An outsider's call, call by call: what it was asked keeps it from what is watched, and from another's grant. t are the tables at the
--- stop, u those that the call finds. Each call makes one table anew; for each table there is a law that says what is asked of the new rows.
+-- An outsider's call, for each of the eight calls. The questions that it passed make sure that it changes nothing that is
+-- watched and no grant of another grantor. t are the tables at the stop, u those that the call finds. Each call gives new
+-- rows to one table. For each table a law says what these rows must keep.
 use mathlib.Core.Bool.{_&&_, _||_, not}
 use mathlib.Core.List.{List, [], _∷_, _++_}
 use mathlib.Core.Logic.{_⊎_, inl, inr, _≢_}
@@ -16,7 +17,8 @@ use Rattle.model.specs.declared.ItemRow.{ItemRow}
 use Rattle.model.specs.Lists.{All, isThere}
 use Rattle.model.specs.Sorted.{find, put, cut}
 use Rattle.model.specs.WhoAndWhat.{custodian, editList, has}
-use Rattle.model.specs.Image.{Tables, grantRow, lineRow, itemRow, subjectRow, grantKey, lineKey, subjectIn, itemIn, itemUsed, isLocked, withList, withOwner}
+use Rattle.model.specs.Image.{Tables, grantRow, lineRow, itemRow, subjectRow, grantKey, lineKey}
+use Rattle.model.specs.Image.{subjectIn, itemIn, itemUsed, isLocked, withList, withOwner}
 use Rattle.model.specs.Permission.{lineIn, grantOf, permissionSet}
 use Rattle.model.specs.Calls.{Change, callerOf, withSubjects, withGrants, withLines, withItems, setItem, newPrivileges, after}
 use Rattle.model.specs.Calls.Change.{defineSubject, setGrant, removeGrant, setLine, removeLine, createItem, bind, handOver}
@@ -35,8 +37,9 @@ module _ (t : Tables) (document : ℕ) where
   not-custodian : (c : ℕ) → Outsider t document c → c ≢ custodian
   not-custodian c outsider e = (rw e at outsider) .outside (search the-custodian)
 
-  module _ (well : WellFormed t) (there : T (itemUsed (t .items) document)) (u : Tables) (now : WellFormed u) (same : Untouched t document u) where
-    -- One table anew.
+  module _ (well : WellFormed t) (there : T (itemUsed (t .items) document))
+      (u : Tables) (now : WellFormed u) (same : Untouched t document u) where
+    -- New rows for one table.
 
     subject-more : (r : SubjectRow) → Untouched t document (withSubjects u (u .subjects ++ r ∷ []))
     subject-more r =
@@ -55,8 +58,8 @@ module _ (t : Tables) (document : ℕ) where
         kept : (s : ℕ) → s < length (t .subjects) → subjectIn (u .subjects ++ r ∷ []) s ≡ subjectIn (u .subjects) s
         kept s old = subject-same (u .subjects) r s (omega (arith, same .subjects-more))
 
-    grants-anew : (rows : List GrantRow) → All (Given t document) rows → Untouched t document (withGrants u rows)
-    grants-anew rows given =
+    grants-replaced : (rows : List GrantRow) → All (Given t document) rows → Untouched t document (withGrants u rows)
+    grants-replaced rows given =
         record {
           capacities-same = same .capacities-same;
           subjects-more = same .subjects-more;
@@ -69,10 +72,10 @@ module _ (t : Tables) (document : ℕ) where
           grants-given = given;
         }
 
-    lines-anew : (rows : List LineRow)
+    lines-replaced : (rows : List LineRow)
         → ((a : ℕ) → Followed t document a → (k s : ℕ) → lineIn rows a k s ≡ lineIn (u .lines) a k s)
         → Untouched t document (withLines u rows)
-    lines-anew rows kept =
+    lines-replaced rows kept =
         record {
           capacities-same = same .capacities-same;
           subjects-more = same .subjects-more;
@@ -85,11 +88,11 @@ module _ (t : Tables) (document : ℕ) where
           grants-given = same .grants-given;
         }
 
-    items-anew : (rows : List ItemRow)
+    items-replaced : (rows : List ItemRow)
         → length (u .items) ≤ length rows
         → ((i : ℕ) → Watched t document i → itemIn rows i ≡ itemIn (u .items) i)
         → Untouched t document (withItems u rows)
-    items-anew rows more kept =
+    items-replaced rows more kept =
         record {
           capacities-same = same .capacities-same;
           subjects-more = same .subjects-more;
@@ -102,35 +105,40 @@ module _ (t : Tables) (document : ℕ) where
           grants-given = same .grants-given;
         }
 
-    -- The lines of a list that the caller may edit are none of a followed list's.
+    -- The caller may edit list b. So b is not a followed list, and its lines are not lines of a followed list.
     module _ (c r b : ℕ) (outsider : Outsider t document c) (allowed : T (has editList (permissionSet u c r b))) where
       another-list : (a : ℕ) → Followed t document a → b ≢ a
       another-list a followed e = no-editor t document u same c a outsider followed r (rw e at allowed)
 
       line-put : (k s v : ℕ) → Untouched t document (withLines u (put lineKey (lineRow b k s v) (u .lines)))
-      line-put k s v = lines-anew (put lineKey (lineRow b k s v) (u .lines)) kept
+      line-put k s v = lines-replaced (put lineKey (lineRow b k s v) (u .lines)) kept
         where
-          kept : (a : ℕ) → Followed t document a → (l x : ℕ) → lineIn (put lineKey (lineRow b k s v) (u .lines)) a l x ≡ lineIn (u .lines) a l x
+          kept : (a : ℕ)
+              → Followed t document a
+              → (l x : ℕ) → lineIn (put lineKey (lineRow b k s v) (u .lines)) a l x ≡ lineIn (u .lines) a l x
           kept zero f l x = refl
-          kept (suc a) f l x = find-put-other lineKey (lineRow b k s v) (u .lines) (suc a ∷ l ∷ x ∷ []) (λ e. another-list (suc a) f (cc e))
+          kept (suc a) f l x =
+              find-put-other lineKey (lineRow b k s v) (u .lines) (suc a ∷ l ∷ x ∷ []) (λ e. another-list (suc a) f (cc e))
 
       line-cut : (k s : ℕ) → Untouched t document (withLines u (cut lineKey (b ∷ k ∷ s ∷ []) (u .lines)))
-      line-cut k s = lines-anew (cut lineKey (b ∷ k ∷ s ∷ []) (u .lines)) kept
+      line-cut k s = lines-replaced (cut lineKey (b ∷ k ∷ s ∷ []) (u .lines)) kept
         where
-          kept : (a : ℕ) → Followed t document a → (l x : ℕ) → lineIn (cut lineKey (b ∷ k ∷ s ∷ []) (u .lines)) a l x ≡ lineIn (u .lines) a l x
+          kept : (a : ℕ)
+              → Followed t document a
+              → (l x : ℕ) → lineIn (cut lineKey (b ∷ k ∷ s ∷ []) (u .lines)) a l x ≡ lineIn (u .lines) a l x
           kept zero f l x = refl
           kept (suc a) f l x =
               find-cut-other lineKey (b ∷ k ∷ s ∷ []) (u .lines) (suc a ∷ l ∷ x ∷ [])
               (lines-ascending u (now .lines-hold))
               (λ e. another-list (suc a) f (cc e))
 
-    -- An item that is not watched anew.
-    item-anew : (i : ℕ) (r : ItemRow) → ¬ Watched t document i → Untouched t document (withItems u (setItem (u .items) i r))
-    item-anew i r apart =
-        items-anew (setItem (u .items) i r) (rw (length-set-item (u .items) i r) (omega arith))
+    -- A new row for an item that is not watched.
+    item-replaced : (i : ℕ) (r : ItemRow) → ¬ Watched t document i → Untouched t document (withItems u (setItem (u .items) i r))
+    item-replaced i r apart =
+        items-replaced (setItem (u .items) i r) (rw (length-set-item (u .items) i r) (omega arith))
         (λ j w. item-other (u .items) i r j (λ e. apart (rw e at w)))
 
-    -- who may bind an item is its owner or the custodian
+    -- only the owner of an item and the custodian may bind it, and the owner of a watched item is an insider
     not-watched : (c i : ℕ) → Outsider t document c → T (mayBind u c i) → ¬ Watched t document i
     not-watched c i outsider may w =
         go (or-cases (eqb c (ownerOf u i) && not (isLocked (u .items) i)) (eqb c custodian) may)
@@ -148,22 +156,23 @@ module _ (t : Tables) (document : ℕ) where
     unfolding questions after
     untouched-after (defineSubject c r p v) outsider q = subject-more (subjectRow p (newPrivileges u c v) c)
     untouched-after (setGrant c s r d v) outsider q =
-        grants-anew (put grantKey (grantRow s r c d v) (u .grants))
+        grants-replaced (put grantKey (grantRow s r c d v) (u .grants))
         (All-put grantKey (Given t document) (grantRow s r c d v) (u .grants)
         record { grantor-present = outsider .present; grantor-outside = λ holder. outsider .outside }
         (same .grants-given))
     untouched-after (removeGrant c s r) outsider q =
-        grants-anew (cut grantKey (s ∷ r ∷ []) (u .grants)) (All-cut grantKey (Given t document) (s ∷ r ∷ []) (u .grants) (same .grants-given))
+        grants-replaced (cut grantKey (s ∷ r ∷ []) (u .grants))
+        (All-cut grantKey (Given t document) (s ∷ r ∷ []) (u .grants) (same .grants-given))
     untouched-after (setLine c r a k s v) outsider q = line-put c r a outsider (search q) k s v
     untouched-after (removeLine c r a k s) outsider q = line-cut c r a outsider (search q) k s
     untouched-after (createItem c r a f) outsider q =
-        items-anew (u .items ++ itemRow c a f ∷ []) (rw length-append (omega arith))
+        items-replaced (u .items ++ itemRow c a f ∷ []) (rw length-append (omega arith))
         (λ i w. item-same (u .items) (itemRow c a f) i (item-still t document u same i (watched-used t document well there w)))
-    untouched-after (bind c i a) outsider q = item-anew i (withList (itemIn (u .items) i) a) (not-watched c i outsider (search q))
+    untouched-after (bind c i a) outsider q = item-replaced i (withList (itemIn (u .items) i) a) (not-watched c i outsider (search q))
     untouched-after (handOver c i o) outsider q =
-        item-anew i (withOwner (itemIn (u .items) i) o) (λ w. not-custodian c outsider (eqb→eq c custodian (search q)))
+        item-replaced i (withOwner (itemIn (u .items) i) o) (λ w. not-custodian c outsider (eqb→eq c custodian (search q)))
 
-  -- Another's grant: only its grantor sets it anew, and only he or the custodian removes it.
+  -- A grant of another grantor: only its grantor can replace it, and only its grantor or the custodian can remove it.
   module _ (u : Tables) (now : WellFormed u) (g : GrantRow) where
     put-kept : (k : List ℕ) (x : GrantRow)
         → find grantKey k (u .grants) ≡ some g

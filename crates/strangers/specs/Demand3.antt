@@ -1,5 +1,5 @@
--- The theorem: demand 3, of images and of both sequences as wholes. The first sequence leads to an accepted image; each call of the second leaves the asker's grant
--- and all that is watched as they were; so the set and the answer are what they were.
+-- The theorem `demand-3`, about images and both whole sequences. The first sequence leads to an accepted image. Each call
+-- of the second keeps the asker's grant and all that is watched. So the set is what it was, and so is the answer.
 use mathlib.Core.List.{List, [], _∷_}
 use mathlib.Core.Path.{_≡_, refl, sym, ap, _∙_}
 use Prim.Native.Nat.{ℕ}
@@ -30,17 +30,18 @@ use Rattle.strangers.specs.Calls.{untouched-after, grant-kept}
 pub run-accepted : (img : List ℕ) (steps : List Step) → Accepted img → All Handed (writing steps) → Accepted (run img steps)
 unfolding run writing
 run-accepted img [] accepted handed = accepted
-run-accepted img (changes c ∷ steps) accepted handed = run-accepted (act img c .image) steps (act-accepted img c (handed .0) accepted) (handed .1)
+run-accepted img (changes c ∷ steps) accepted handed =
+    run-accepted (act img c .image) steps (act-accepted img c (handed .0) accepted) (handed .1)
 run-accepted img (reads q ∷ steps) accepted handed = run-accepted img steps accepted handed
 
 module _ (stop : List ℕ) (asker role document : ℕ) where
-  -- what is kept, besides the image's being accepted
+  -- what is kept, besides that the image is accepted
   record Kept (u : Tables) : Type 0 where
     untouched : Untouched (tables stop) document u
     grant-same : grantOf u asker role ≡ grantOf (tables stop) asker role
 
   module _ (well : WellFormed (tables stop)) (present : T (itemUsed (tables stop .items) document)) where
-    -- after a call: the asker claims no role, or one whose grantor is not the caller
+    -- It is kept after a call: the asker claims no role, or one whose grantor is not the caller.
     kept-after : (u : Tables) (c : Change) (more : List Change)
         → Stranger (tables stop) document (callerOf c)
         → Claim (tables stop) asker (c ∷ more) role
@@ -62,12 +63,12 @@ module _ (stop : List ℕ) (asker role document : ℕ) where
         grant (granted {r} g held others) same =
             grant-kept (tables stop) document u now g asker r c (same ∙ held) (others .0) (stranger .outsider) q ∙ sym held
 
-    -- the role is claimed beside the further calls too
+    -- a claim that is met beside c and the calls after it is also met beside those after it alone
     rest : (c : Change) (more : List Change) → {r : ℕ} → Claim (tables stop) asker (c ∷ more) r → Claim (tables stop) asker more r
     rest c more no-role = no-role
     rest c more (granted g held others) = granted g held (others .1)
 
-    -- after a sequence
+    -- it is kept after a sequence
     kept-run : (img : List ℕ) (steps : List Step)
         → Accepted img
         → All Handed (writing steps)
@@ -78,11 +79,12 @@ module _ (stop : List ℕ) (asker role document : ℕ) where
     unfolding run writing
     kept-run img [] accepted handed strangers claim kept = kept
     kept-run img (changes c ∷ steps) accepted handed strangers claim kept =
-        kept-run (act img c .image) steps (act-accepted img c (handed .0) accepted) (handed .1) (strangers .1) (rest c (writing steps) claim)
+        kept-run (act img c .image) steps (act-accepted img c (handed .0) accepted) (handed .1) (strangers .1)
+        (rest c (writing steps) claim)
         (act-keeps img c (handed .0) accepted Kept kept (kept-after (tables img) c (writing steps) (strangers .0) claim kept))
     kept-run img (reads q ∷ steps) accepted handed strangers claim kept = kept-run img steps accepted handed strangers claim kept
 
--- asking for a set on an accepted image, by a subject and of an item that are present
+-- the answer to a call that asks for a set on an accepted image, where the subject and the item are present
 asked-set : (img : List ℕ) (s r i : ℕ)
     → Accepted img
     → T (subjectUsed (tables img .subjects) s)
@@ -125,7 +127,8 @@ demand-3 start accepted first second handed-first handed-second asker role docum
 
     kept : Kept stop asker role document (tables later)
     kept =
-        kept-run stop asker role document well (covered .document-present) stop second at-stop handed-second (covered .strangers-only) (covered .claimed)
+        kept-run stop asker role document well (covered .document-present) stop second at-stop handed-second
+        (covered .strangers-only) (covered .claimed)
         record { untouched = untouched-at-stop (tables stop) document well; grant-same = refl }
 
     set-same : permissionSet (tables later) asker role document ≡ permissionSet (tables stop) asker role document

@@ -1,4 +1,5 @@
--- Demand 3. First its definitions, the section of document 01 that stands here and not in `model`; and that the followed lists are those that a walk meets.
+-- Demand 3. First its definitions, the section of document 01 that is here and not in `model`. And that a walk meets
+-- exactly the followed lists.
 pub mod Sequences
 pub mod Walk
 -- Then what strangers cannot reach: the watched items; all that the permission set is read from; the calls, one by one.

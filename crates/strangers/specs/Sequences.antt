@@ -1,4 +1,4 @@
--- Document 01, "The sequences of demand 3": followed lists, insiders, strangers, and the claim.
+-- Document 01, "The sequences of demand 3": sequences of calls, followed lists, insiders, strangers, and the claim.
 use mathlib.Core.List.{List, [], _∷_}
 use mathlib.Core.Logic.{_≢_}
 use mathlib.Core.Option.{some}
@@ -14,83 +14,91 @@ use Rattle.model.specs.Calls.{Ask, Change, callerOf, Handed}
 use Rattle.model.specs.Calls.Ask.{permissionSetOf}
 use Rattle.model.specs.Questions.{answer, Accepted, ask, act}
 
--- The calls that never write the image.
+-- The calls that only read the image.
 pub data Reading : Type 0 where
   asks : Ask → Reading
   showsLines : (list : ℕ) → Reading
   searchesEditor : (list : ℕ) → Reading
 
--- A sequence is made of calls that write the image and of calls that never do, which may stand anywhere.
+-- One step of a sequence: a call that may change the tables, or one that only reads. Both kinds may come in any order.
 pub data Step : Type 0 where
   changes : Change → Step
   reads : Reading → Step
 
--- Each call gets the image as the one before it left it, changed or refused.
+-- The image after a sequence. Every step works on the image that the step before it left. A refused call leaves the image
+-- as it was, and so does a call that only reads.
 unfoldable pub run : List ℕ → List Step → List ℕ
 run img [] = img
 run img (changes c ∷ steps) = run (act img c .image) steps
 run img (reads q ∷ steps) = run img steps
 
--- the calls of a sequence that write
+-- the calls of a sequence that may change the tables, in their order
 unfoldable pub writing : List Step → List Change
 writing [] = []
 writing (changes c ∷ steps) = c ∷ writing steps
 writing (reads q ∷ steps) = writing steps
 
--- the access list that controls an item, and the item's owner
+-- the access list that controls an item, which is 0 for none, and the item's owner
 abbrev pub listOf : Tables → ℕ → ℕ
 listOf t i = itemIn (t .items) i .list .0
 
 abbrev pub ownerOf : Tables → ℕ → ℕ
 ownerOf t i = itemIn (t .items) i .owner .0
 
--- Who is who for a document. t are the tables at the stop.
+-- Who is an insider of a document, and who is a stranger. t are the tables at the stop, where the first sequence ends.
 module _ (t : Tables) (document : ℕ) where
-  -- The items that are followed from: the document.
+  -- The items from which lists are followed. There is one: the document.
   pub data Start : ℕ → Type 0 where
     the-document : Start document
 
-  -- The followed lists: the document's access list, that list's own list, and on until none or a repeat.
+  -- A list is followed if it controls the document or a list that is followed. This ends at an item without a list, and a
+  -- list that comes up again adds nothing.
   pub data Followed : ℕ → Type 0 where
     its-list : {d : ℕ} → Start d → listOf t d ≢ 0 → Followed (listOf t d)
     list-of : {a : ℕ} → Followed a → listOf t a ≢ 0 → Followed (listOf t a)
 
-  -- Insiders: the custodian, the owners of the document and of the followed lists, and whoever those lists' lines allow to edit any of them.
+  -- There are four ways to be an insider: to be the custodian, to own the document, to own a followed list, or to be
+  -- allowed by the lines to edit a followed list. The last means that the subject's lines' part on that list has the
+  -- privilege to edit a list. The subject's own privileges and its roles do not count for that.
   pub data Insider : ℕ → Type 0 where
     the-custodian : Insider custodian
     owns-document : {d : ℕ} → Start d → Insider (ownerOf t d)
     owns-list : {a : ℕ} → Followed a → Insider (ownerOf t a)
     may-edit : {a s : ℕ} → Followed a → T (has editList (linesPart t s a)) → Insider s
 
-  -- An outsider is present, is no insider, and holds no role granted by one.
+  -- An outsider is a subject in use that is not an insider. And no insider is the grantor of a role that it holds.
   pub record Outsider (s : ℕ) : Type 0 where
     pub present : T (subjectUsed (t .subjects) s)
     pub outside : ¬ Insider s
     pub holds-none : All (λ g. g .receiver .0 ≡ s → ¬ Insider (g .grantor .0)) (t .grants)
 
-  -- What the paper calls a stranger is an outsider; nothing more is asked of one.
+  -- The paper's strangers are the outsiders. Nothing more is asked of them.
   pub record Stranger (s : ℕ) : Type 0 where
     pub outsider : Outsider s
 
--- The asker claims no role, or one granted to it at the stop whose grantor makes none of the added calls.
+-- Which role the asker may claim: 0, which is no role, or one for which it has a grant in t. In the second case the grantor
+-- of that grant is not the caller of any call in `added`.
 pub data Claim (t : Tables) (asker : ℕ) (added : List Change) : ℕ → Type 0 where
   no-role : Claim t asker added 0
   granted : {r : ℕ} (g : GrantRow) → grantOf t asker r ≡ some g → All (λ c. callerOf c ≢ g .grantor .0) added → Claim t asker added r
 
--- What is asked of the second sequence, of the asker, its role and the document; all is read from the image at the stop.
+-- The conditions on the second sequence, the asker, its role and the document. Each is read from the image at the stop.
 pub record Covered (stop : List ℕ) (second : List Step) (asker role document : ℕ) : Type 0 where
   pub asker-present : T (subjectUsed (tables stop .subjects) asker)
   pub document-present : T (itemUsed (tables stop .items) document)
   pub strangers-only : All (λ c. Stranger (tables stop) document (callerOf c)) (writing second)
   pub claimed : Claim (tables stop) asker (writing second) role
 
--- The permission set is the same in both images, and asking for it is answered by number 0 and that set on both.
+-- What is claimed: the permission set in `later` is the one in `stop`, and the call that asks for it answers number 0 and
+-- this same set on either image.
 pub record Unchanged (stop later : List ℕ) (asker role document : ℕ) : Type 0 where
   pub set-same : permissionSet (tables later) asker role document ≡ permissionSet (tables stop) asker role document
   pub answer-then : ask stop (permissionSetOf asker role document) ≡ answer 0 (permissionSet (tables stop) asker role document)
   pub answer-later : ask later (permissionSetOf asker role document) ≡ answer 0 (permissionSet (tables stop) asker role document)
 
--- Demand 3: one claim about both sequences as wholes.
+-- Demand 3, one statement about both whole sequences. The first starts from any accepted image and ends at the stop, where
+-- the second starts. Their calls are handed any numbers of 32 bits. If the second sequence, the asker, its role and the
+-- document meet the conditions above, the set and the answer are unchanged when it ends.
 abbrev pub Demand3 : Type 0
 Demand3 =
     (start : List ℕ)

@@ -1,4 +1,5 @@
--- What strangers leave as it was, and that the permission set is read from nothing else. t are the tables at the stop, u those now.
+-- What the calls of strangers keep, and that the permission set is read from nothing else. t are the tables at the stop, u
+-- those now.
 use mathlib.Core.Bool.{Bool, true, false, cond}
 use mathlib.Core.List.{[], _∷_}
 use mathlib.Core.Logic.{_⊎_, inl, inr}
@@ -12,8 +13,10 @@ use Rattle.model.specs.declared.GrantRow.{GrantRow}
 use Rattle.model.specs.Lists.{All}
 use Rattle.model.specs.Tree.{inTree}
 use Rattle.model.specs.WhoAndWhat.{editList, has, _∩_}
-use Rattle.model.specs.Image.{Tables, itselfKind, ownerKind, everyoneKind, grantKey, subjectIn, parentIn, privilegesIn, subjectUsed, itemIn, itemUsed, grantRules}
-use Rattle.model.specs.Permission.{lineIn, directLine, partOf, linesPart, grantOf, lentOperations, lentPart, operationUnder, objectUnder, permissionUnder, permissionSet}
+use Rattle.model.specs.Image.{Tables, itselfKind, ownerKind, everyoneKind, grantKey, grantRules}
+use Rattle.model.specs.Image.{subjectIn, parentIn, privilegesIn, subjectUsed, itemIn, itemUsed}
+use Rattle.model.specs.Permission.{lineIn, directLine, partOf, linesPart, grantOf, lentOperations, lentPart}
+use Rattle.model.specs.Permission.{operationUnder, objectUnder, permissionUnder, permissionSet}
 use Rattle.laws.specs.Tests.{and-l, and-r, or-cases, All-map, All-both, All-self}
 use Rattle.laws.specs.Sorted.{IfSome, All-find}
 use Rattle.laws.specs.Sets.{has-or, has-and}
@@ -26,13 +29,13 @@ use Rattle.strangers.specs.Watched.{Watched, watched-list, owner-used}
 use Rattle.strangers.specs.Watched.Watched.{list}
 
 module _ (t : Tables) (document : ℕ) where
-  -- a grant's grantor was there at the stop, and is no insider where an outsider holds it
+  -- the grantor of a grant was present at the stop, and is no insider if an outsider holds the grant
   pub record Given (g : GrantRow) : Type 0 where
     pub grantor-present : T (subjectUsed (t .subjects) (g .grantor .0))
     pub grantor-outside : Outsider t document (g .receiver .0) → ¬ Insider t document (g .grantor .0)
 
-  -- The tables have the room that they had. No subject at the stop has gone or has another parent, creator or privileges. No watched item
-  -- has changed, nor a line of a followed list. Every grant was given as said.
+  -- The capacities are the same. Every subject that was present still is, with the same parent, creator and privileges. No
+  -- item has gone. The watched items and the lines of the followed lists are the same. Every grant is as `Given` says.
   pub record Untouched (u : Tables) : Type 0 where
     pub capacities-same : u .capacities ≡ t .capacities
     pub subjects-more : length (t .subjects) ≤ length (u .subjects)
@@ -44,7 +47,8 @@ module _ (t : Tables) (document : ℕ) where
     pub lines-same : (a : ℕ) → Followed t document a → (k s : ℕ) → lineIn (u .lines) a k s ≡ lineIn (t .lines) a k s
     pub grants-given : All Given (u .grants)
 
-  -- All of it holds at the stop. An outsider holds none of the grants whose grantor is an insider, row by row.
+  -- All of this holds at the stop. In no row does an outsider hold a grant from an insider, so each grant is as `Given`
+  -- says.
   pub untouched-at-stop : WellFormed t → Untouched t
   untouched-at-stop well =
       record {
@@ -66,7 +70,9 @@ module _ (t : Tables) (document : ℕ) where
       outside-for : ℕ → GrantRow → Type 0
       outside-for s g = g .receiver .0 ≡ s → ¬ Insider t document (g .grantor .0)
 
-      grant-given : (g : GrantRow) → T (grantRules (t .subjects) g) × ((s : ℕ) → All (outside-for s) (t .grants) → outside-for s g) → Given g
+      grant-given : (g : GrantRow)
+          → T (grantRules (t .subjects) g) × ((s : ℕ) → All (outside-for s) (t .grants) → outside-for s g)
+          → Given g
       grant-given g p =
           record {
             grantor-present = search (and-l, and-r);
@@ -76,7 +82,8 @@ module _ (t : Tables) (document : ℕ) where
   module _ (u : Tables) (same : Untouched u) where
     -- what was present still is
     pub subject-still : (s : ℕ) → T (subjectUsed (t .subjects) s) → T (subjectUsed (u .subjects) s)
-    subject-still s present = lt→ltb s (length (u .subjects)) (omega (arith, same .subjects-more, ltb→lt s (length (t .subjects)) present))
+    subject-still s present =
+        lt→ltb s (length (u .subjects)) (omega (arith, same .subjects-more, ltb→lt s (length (t .subjects)) present))
 
     pub item-still : (i : ℕ) → T (itemUsed (t .items) i) → T (itemUsed (u .items) i)
     item-still zero present = present
@@ -86,7 +93,7 @@ module _ (t : Tables) (document : ℕ) where
     own-lines-agree a (inl e) k s = rw e refl
     own-lines-agree a (inr f) k s = same .lines-same a f k s
 
-    -- the lines' part on a watched item
+    -- the lines' part on a watched item is the same
     pub part-same : (s i : ℕ) → T (subjectUsed (t .subjects) s) → Watched t document i → linesPart u s i ≡ linesPart t s i
     unfolding partOf directLine
     part-same s i present w =
@@ -101,13 +108,13 @@ module _ (t : Tables) (document : ℕ) where
               (u .lines) (t .lines) (listOf t i) agree s (search ltb→lt),
         )
 
-    -- a found grant was given
+    -- a grant that is found is as `Given` says
     given-of : (s r : ℕ) → IfSome (λ g. Given g × (grantKey g ≡ s ∷ r ∷ [])) (grantOf u s r)
     given-of s zero = tt
     given-of s (suc r) = All-find grantKey Given (s ∷ suc r ∷ []) (u .grants) (same .grants-given)
 
-    -- An outsider may not edit a followed list, under whatever role: that its own lines' part allows it would make it an insider, and that
-    -- its grantor's does would make that one an insider.
+    -- An outsider may not edit a followed list, whatever role it claims. If its own lines' part allowed it, the outsider
+    -- would be an insider. If its grantor's lines' part did, the grantor would be one.
     module _ (c a : ℕ) (outsider : Outsider t document c) (followed : Followed t document a) where
       allowed-inside : (s : ℕ) → T (subjectUsed (t .subjects) s) → T (has editList (linesPart u s a)) → Insider t document s
       allowed-inside s present allowed =
@@ -143,16 +150,17 @@ module _ (t : Tables) (document : ℕ) where
           go (inl own) = outsider .outside (allowed-inside c (outsider .present) own)
           go (inr lent) = lent-none (grantOf u c r) r (given-of c r) lent
 
-    -- of a grant, where there is one: its grantor was present
+    -- if there is a grant, its grantor was present
     abbrev GrantorThere : Option GrantRow → Type 0
     GrantorThere = IfSome (λ g. T (subjectUsed (t .subjects) (g .grantor .0)))
 
-    -- such a grant lends the same to the operation set
+    -- such a grant adds the same to the operation set
     lent-operations-same : (o : Option GrantRow) → GrantorThere o → lentOperations u o ≡ lentOperations t o
     lent-operations-same none p = refl
     lent-operations-same (some g) p = ap (λ (x : ℕ). g .privileges ∩ x) (same .privileges-same (g .grantor .0) (search ltb→lt))
 
-    -- The permission set on a watched item is read from what is the same, for one who was present and under a grant whose grantor was.
+    -- The permission set on a watched item is the same for an asker that was present, under a grant whose grantor was. All
+    -- that it is read from is the same.
     module _ (well : WellFormed t) (there : T (itemUsed (t .items) document)) (i : ℕ) (w : Watched t document i) where
       lent-part-same : (o : Option GrantRow) → GrantorThere o → lentPart u o i ≡ lentPart t o i
       lent-part-same none p = refl

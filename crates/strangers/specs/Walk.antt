@@ -1,7 +1,8 @@
--- The followed lists as walks: from each start to its list, to that list's own list, and on until none or a repeat. They meet exactly the
--- followed lists. At each step the lists met are followed ones, and the lists of the starts walked from and of those met are met or next to
--- meet. At the end nothing new is next, so all are met. The steps suffice: a list that has a list of its own is an item in use, so meeting
--- it leaves one item fewer to meet.
+-- The followed lists by computation. A walk goes from a start to its list and then from list to list. It ends where there
+-- is no list, or one that was met before. The walks from all starts meet exactly the followed lists. This is so
+-- because at each step every list met is a followed one, and the list of every start and of every list met is itself met
+-- or is next. At the end nothing new is next, so all are met. There are enough steps: a list that has a list of its own is
+-- an item in use, so meeting it leaves fewer items to meet.
 use mathlib.Core.Bool.{Bool, true, false, _||_, cond, true≢false}
 use mathlib.Core.List.{List, [], _∷_}
 use mathlib.Core.Logic.{inl, inr, _≢_}
@@ -18,7 +19,7 @@ use Rattle.strangers.specs.Sequences.{listOf, Start, Followed}
 use Rattle.strangers.specs.Sequences.Start.{the-document}
 use Rattle.strangers.specs.Sequences.Followed.{its-list, list-of}
 
--- some number of a list passes a test; a is a number of it
+-- `someOf`: some number of a list passes a test; `among`: a is one of its numbers
 abbrev pub someOf : (ℕ → Bool) → List ℕ → Bool
 someOf test [] = false
 someOf test (x ∷ xs) = test x || someOf test xs
@@ -26,8 +27,8 @@ someOf test (x ∷ xs) = test x || someOf test xs
 abbrev pub among : ℕ → List ℕ → Bool
 among a = someOf (eqb a)
 
--- The lists met, from list a on, after those met before; the last one stands first. With more steps than there are items the walk is not
--- cut short.
+-- The lists met by a walk that goes on at list a, together with those met before; the one met last is first. With more
+-- steps than there are items the walk is not cut short.
 unfoldable pub walk : Tables → ℕ → List ℕ → ℕ → List ℕ
 walk t zero met a = met
 walk t (suc n) met a = cond (eqb a 0 || among a met) met (walk t n (a ∷ met) (listOf t a))
@@ -37,7 +38,7 @@ abbrev listsFrom : Tables → List ℕ → List ℕ
 listsFrom t [] = []
 listsFrom t (d ∷ starts) = walk t (suc (length (t .items))) (listsFrom t starts) (listOf t d)
 
--- the items that are followed from, and the lists met from them
+-- the starts, and the lists met from them
 abbrev pub startsOf : Tables → ℕ → List ℕ
 startsOf t document = document ∷ []
 
@@ -49,7 +50,7 @@ unfoldable left : ℕ → List ℕ → ℕ
 left zero met = 0
 left (suc m) met = cond (among (suc m) met) 0 1 + left m met
 
--- at most all of them are
+-- they are at most m
 left-at-most : (m : ℕ) (met : List ℕ) → left m met ≤ m
 unfolding left
 left-at-most zero met = omega arith
@@ -58,7 +59,7 @@ left-at-most (suc m) met = elim (two (among (suc m) met)) [
   | inr e ↦ rw e (omega (arith, left-at-most m met))
 ]
 
--- a number met already (q) stays met as another is, or itself (p)
+-- a number that was met (q) stays met when one more is met, be it the same number (p) or another
 one-more : (p q : Bool) → cond (p || q) 0 1 ≤ cond q 0 1
 one-more true q = omega arith
 one-more false q = omega arith
@@ -68,7 +69,7 @@ unfolding left
 left-le zero a met = omega arith
 left-le (suc m) a met = omega (arith, one-more (eqb (suc m) a) (among (suc m) met), left-le m a met)
 
--- one of them met for the first time leaves one fewer
+-- meeting one of them for the first time leaves fewer
 left-lt : (m k : ℕ) (met : List ℕ) → k < m → among (suc k) met ≡ false → left m (suc k ∷ met) < left m met
 unfolding left
 left-lt zero k met h new = omega arith
@@ -80,7 +81,7 @@ left-lt (suc m) k met h new = elim (eq-or-ne m k) [
 abbrev itemsLeft : Tables → List ℕ → ℕ
 itemsLeft t = left (length (t .items))
 
--- what has a list is an item in use, so meeting it leaves one item fewer
+-- an item that has a list is in use, so meeting it for the first time leaves fewer items
 items-lt : (t : Tables) (a : ℕ) (met : List ℕ) → among a (0 ∷ met) ≡ false → listOf t a ≢ 0 → itemsLeft t (a ∷ met) < itemsLeft t met
 items-lt t zero met new some-list = absurd (some-list refl)
 items-lt t (suc k) met new some-list = elim (le-or-lt (length (t .items)) k) [
@@ -88,27 +89,29 @@ items-lt t (suc k) met new some-list = elim (le-or-lt (length (t .items)) k) [
   | inr used ↦ left-lt (length (t .items)) k met used (rw (eqb·suc-zero k) at new)
 ]
 
--- what holds of each number of a list holds of one among them
+-- what holds for all numbers of a list holds for each one among them
 among-All : (P : ℕ → Type 0) (xs : List ℕ) → All P xs → (a : ℕ) → T (among a xs) → P a
 among-All P [] all a h = absurd h
-among-All P (x ∷ xs) all a h = elim (or-cases (eqb a x) (among a xs) h) [ inl e ↦ rw (eqb→eq a x e) (all .0) | inr l ↦ among-All P xs (all .1) a l ]
+among-All P (x ∷ xs) all a h =
+    elim (or-cases (eqb a x) (among a xs) h) [ inl e ↦ rw (eqb→eq a x e) (all .0) | inr l ↦ among-All P xs (all .1) a l ]
 
 module _ (t : Tables) (document : ℕ) where
-  -- an item has no list, or one among these
+  -- item x has no list, or one among `lists`
   abbrev Listed : List ℕ → ℕ → Type 0
   Listed lists x = listOf t x ≢ 0 → T (among (listOf t x) lists)
 
-  -- What holds along the walks: the lists met are followed ones; the starts walked from and the lists met have their lists among these.
+  -- What holds along the walks: the lists met are followed ones, and the lists of the starts so far and of the lists met
+  -- are among `lists`.
   record Met (starts met lists : List ℕ) : Type 0 where
     followed : All (Followed t document) met
     of-starts : All (Listed lists) starts
     of-met : All (Listed lists) met
 
-  -- what has its list among these has it among one more
+  -- what has its list among `lists` still has it there after one more is added
   more-listed : (b : ℕ) (lists xs : List ℕ) → All (Listed lists) xs → All (Listed (b ∷ lists)) xs
   more-listed b lists = All-map (λ x l some-list. search or-r)
 
-  -- where the next list a is none or is met already, it adds nothing to those met
+  -- if the next list a is none or was met before, it adds nothing to the lists met
   at-end : (starts met : List ℕ) (a : ℕ) → T (among a (0 ∷ met)) → Met starts met (a ∷ met) → Met starts met met
   at-end starts met a end m =
       record { followed = m .followed; of-starts = All-map listed starts (m .of-starts); of-met = All-map listed met (m .of-met) }
@@ -122,7 +125,8 @@ module _ (t : Tables) (document : ℕ) where
         | inr h ↦ h
       ]
 
-  -- Along a walk, a is the next list, and there are more steps to go than items left. After a list met for the first time, its own is next.
+  -- Along a walk, a is the next list, and more steps are left than items to meet. After a list that is met for the first
+  -- time, its own list is next.
   walk-met : (n : ℕ) (starts met : List ℕ) (a : ℕ)
       → (a ≢ 0 → Followed t document a × (itemsLeft t met < n))
       → Met starts met (a ∷ met)
@@ -159,7 +163,7 @@ module _ (t : Tables) (document : ℕ) where
         of-met = more-listed (listOf t d) met met (m .of-met);
       }
 
-  -- `startsOf` has the starts, and them alone.
+  -- `startsOf` has all starts and nothing else.
   starts-only : All (Start t document) (startsOf t document)
   starts-only = (the-document, tt)
 

@@ -1,4 +1,5 @@
--- The watched items: the document and its followed lists. Each is in use, its owner is an insider, and its own list is none or a followed one.
+-- The watched items: the document and its followed lists. Each is in use, its owner is an insider, and its own list is
+-- none or a followed one.
 use mathlib.Core.Logic.{_⊎_, inl, inr, _≢_}
 use mathlib.Core.Path.{_≡_}
 use Prim.Native.Nat.{ℕ}
@@ -30,7 +31,7 @@ module _ (t : Tables) (document : ℕ) where
   watched-list {i} w = elim (eq-or-ne (listOf t i) 0) [ inl e ↦ inl e | inr d ↦ inr (followed-list w d) ]
 
   module _ (well : WellFormed t) (present : T (itemUsed (t .items) document)) where
-    -- an item in use has for its list none or one in use
+    -- the list of an item in use, if it has one, is an item in use
     list-used : (i : ℕ) → T (itemUsed (t .items) i) → listOf t i ≢ 0 → T (itemUsed (t .items) (listOf t i))
     list-used i used some-list =
         let good : GoodItem t i (itemIn (t .items) i) = item-good t well i used in

@@ -1,1 +1,1 @@
-// Demand 3, about whole sequences of calls; there is no code here.
+// Demand 3, about whole sequences of calls. There is no code here.

@@ -1,4 +1,4 @@
--- A free row of a table, told by a callee that knows the size of its rows as a number.
+-- Whether a table has a free row, answered by a callee that is handed the size of a row as a number.
 use mathlib.Core.Bool.{Bool, false}
 use mathlib.Core.List.{List}
 use mathlib.Core.Path.{_≡_, sym, ap, _∙_}
@@ -20,6 +20,8 @@ no-capacity t n h =
 pub free-sized : (t : Table) (n m : ℕ) (b : Bool) → b ≡ ltb (t .used) (capacityBy n t) → n ≡ m → b ≡ ltb (t .used) (capacityBy m t)
 free-sized t n m b said sized = said ∙ ap (λ (k : ℕ). ltb (t .used) (capacityBy k t)) sized
 
--- a table's used rows counted by its layout and by the rows themselves
-pub row-free : {A : Type 0} (f : Format A) (t : Table) (img : List ℕ) (n : ℕ) (b : Bool) → b ≡ ltb (t .used) n → b ≡ ltb (length (rowsIn f t img)) n
+-- the number of rows in use by the layout is the number of the rows themselves
+pub row-free : {A : Type 0} (f : Format A) (t : Table) (img : List ℕ) (n : ℕ) (b : Bool)
+    → b ≡ ltb (t .used) n
+    → b ≡ ltb (length (rowsIn f t img)) n
 row-free f t img n b e = rw (rows-count f t img) e

@@ -11,14 +11,14 @@ use Rattle.laws.specs.Tests.{lt-eq-gt}
 use Rattle.laws.specs.Tree.{tree-up, tree-below}
 
 module _ (up : ℕ → ℕ) (h s : ℕ) where
-  -- the question is the same at the number climbed to
+  -- the question has the same answer for s and for the number that the climb has reached
   pub record Climbed (at : ℕ) : Type 0 where
     pub same-question : inTree up h s ≡ inTree up h at
 
   pub climbed-none : Climbed s
   climbed-none = record { same-question = refl }
 
-  -- one step on, above the root
+  -- one more step, above the root
   step : (at : ℕ) → Climbed at → h < at → inTree up h s ≡ (ltb (up at) at && inTree up h (up at))
   step at c l = c .same-question ∙ tree-up up h at ∙ rw (ne-eqb at h (omega arith))
 

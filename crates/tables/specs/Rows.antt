@@ -10,13 +10,16 @@ use Rattle.model.specs.declared.Layout.{Layout}
 use Rattle.model.specs.declared.SubjectRow.{SubjectRow}
 use Rattle.model.specs.declared.ItemRow.{ItemRow}
 use Rattle.model.specs.WhoAndWhat.{has}
-use Rattle.model.specs.Image.{Format, size, firstRow, rowsIn, tablesBy, widthOf, subjectFormat, noSubject, parentIn, itemFormat, listFlag, itemIn, itemUsed, isList}
+use Rattle.model.specs.Image.{Format, size, firstRow, rowsIn, tablesBy, widthOf, subjectFormat, noSubject, parentIn}
+use Rattle.model.specs.Image.{itemFormat, listFlag, itemIn, itemUsed, isList}
 use Rattle.laws.specs.Rows.{rows-count, subject-lawful}
 use Rattle.rows.specs.Reading.{rowsSlice}
 use Rattle.rows.specs.Among.{among-row}
 use Rattle.laws.specs.Tests.{and-yes, said-yes}
 
-pub row-used : {A : Type 0} (f : Format A) (t : Table) (img : List ℕ) (n : ℕ) (b : Bool) → b ≡ ltb n (t .used) → b ≡ ltb n (length (rowsIn f t img))
+pub row-used : {A : Type 0} (f : Format A) (t : Table) (img : List ℕ) (n : ℕ) (b : Bool)
+    → b ≡ ltb n (t .used)
+    → b ≡ ltb n (length (rowsIn f t img))
 row-used f t img n b e = rw (rows-count f t img) e
 
 pub item-is-used : (t : Table) (img : List ℕ) (n : ℕ) (b : Bool)
@@ -32,9 +35,10 @@ pub list-flag : (rows : List ItemRow) (n : ℕ) (x : ItemRow) (t b : Bool)
     → x ≡ itemIn rows n
     → b ≡ has listFlag (x .flags)
     → b ≡ isList rows n
-list-flag rows n x t b used there e f = and-yes (itemUsed rows n) (has listFlag (itemIn rows n .flags)) b (said-yes (itemUsed rows n) t used there) (rw (← e) f)
+list-flag rows n x t b used there e f =
+    and-yes (itemUsed rows n) (has listFlag (itemIn rows n .flags)) b (said-yes (itemUsed rows n) t used there) (rw (← e) f)
 
--- a subject's parent, read from the bytes of the subjects' rows
+-- a subject's parent, read from the slice of the subjects' rows
 pub parent-among : (lay : Layout) (img rows : List ℕ) (n : ℕ) (x : SubjectRow)
     → rows ≡ rowsSlice (subjectFormat (widthOf lay)) (lay .subjects) img
     → x ≡ firstRow (subjectFormat (widthOf lay)) (drop (n * size (subjectFormat (widthOf lay))) rows)

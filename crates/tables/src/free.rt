@@ -1,4 +1,4 @@
-// Whether a table has a row that is not in use, which question 19 asks where a row is added.
+// Whether a table has a free row. Question 19 asks this where a row is added.
 ghost use mathlib.Core.Path.{_≡_};
 ghost use Prim.Native.Nat.{_<_};
 ghost use lib.Dec.{ltb};
@@ -34,7 +34,7 @@ pub fn item_free(layout: Layout) -> bool
     has_free(layout.items, item_size(layout))
 }
 
-// A table that ends before it starts has no room.
+// A table that ends before it starts has no free row.
 fn has_free(table: Table, size: usize) -> bool
     requires { ⌜ 0 < size ⌝ }
     ensures { λ r. ⌜ r ≡ ltb (table .used) (capacityBy size table) ⌝ }

@@ -30,7 +30,8 @@ pub fn privileges_of(image: &[u8], layout: Layout, subject: Subject) -> Privileg
     row.privileges
 }
 
-// A subject is in the tree of a root. A tree has no number lower than its root's, so the climb ends there.
+// The subject is in the tree of a root. A tree has no number lower than its root's, so the climb
+// ends as soon as it is not above the root.
 pub fn in_tree(image: &[u8], layout: Layout, root: Subject, subject: Subject) -> bool
     ensures { λ r. ⌜ r ≡ inTree (parentIn (tablesBy layout (now (image .entry)) .subjects)) (root .0) (subject .0) ⌝ }
 {

@@ -17,19 +17,19 @@ pub struct Case {
     pub report_search: Search,
 }
 
-/// A call, and what it does here.
+/// A call on that image, with its name in the table of times.
 pub struct Operation {
     pub name: &'static str,
     pub call: Call,
     pub search: Search,
 }
 
-/// How much of the library's time goes into its row-by-row search for one line. Set by hand.
+/// How much of the library's time goes into its row-by-row search for one line. This is set by hand.
 #[derive(Clone, Copy, PartialEq, Eq)]
 pub enum Search {
-    /// Little: no line is looked up, or only in a table of few.
+    /// Little: no line is looked up, or only in a table of few lines.
     Little,
-    /// What the call takes beyond the check of the whole image, with which every call begins.
+    /// All that the call takes beyond the check of the whole image, with which every call begins.
     BesideTheCheck,
     /// Most of it: lines are looked up for every subject.
     Most,
@@ -83,7 +83,7 @@ fn mixed_case() -> Case {
     }
 }
 
-/// The time goes into the way up. The lines are so few that each is soon found.
+/// The time goes into the way up the chain. There are few lines, so each is soon found.
 fn chain_case() -> Case {
     let tables = images::chain();
     let deepest = tables.subjects.used() as u32 - 1;
@@ -177,7 +177,8 @@ fn overwriting(tables: &Tables) -> Call {
     }
 }
 
-/// Gives a line to a subject that has none of its own yet, on the list in the middle of the table.
+/// Sets a line for a subject that has none of its own yet, on the list of the line in the middle of
+/// the table.
 fn inserting(tables: &Tables) -> Call {
     let list = list_in_the_middle(tables);
     let subject = (1..)

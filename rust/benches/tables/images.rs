@@ -1,4 +1,4 @@
-//! The images that are measured. The random ones start from fixed seeds, so every run has the same.
+//! The images that are measured. The random ones have fixed seeds, so they are the same in every run.
 
 use crate::random::Random;
 use crate::sample::{EVERYONE, GROUP, ITSELF, OWNER};
@@ -9,18 +9,19 @@ use std::collections::{BTreeMap, BTreeSet};
 const LONGEST: usize = 65_536;
 const ITEM_BYTES: usize = 12;
 
-/// Spare rows of a table, so that a row can be added.
+/// Free rows of a table, so that a row can be added.
 const SPARE: usize = 2;
 
 const IS_LIST: u32 = 1;
 const CUSTODIAN: [u32; 3] = [0, ALL, 0];
 
-/// What random lines give at most. Nobody may edit a list by it, so that the search for an editor
-/// goes through all subjects.
+/// What random lines give at most. It does not include the right to edit a list, so that the search
+/// for an editor goes through all subjects.
 const DAILY_WORK: u32 = READ | REPLACE | DISCARD | ANNOTATE;
 
-/// Exactly 65,536 bytes of everything: 1,000 subjects in a random tree, 600 grants, 1,000 lines on
-/// 40 lists, and items under these lists in the rest. The last subject alone may edit the lists.
+/// Exactly 65,536 bytes: 1,000 subjects in a random tree, 600 grants, 1,000 lines on 40 lists, and
+/// items under these lists in all other bytes. Only the custodian and the last subject may edit the
+/// lists.
 pub fn mixed() -> Tables {
     let random = &mut Random::new(1);
     let subjects = with_spare(random_tree(random, 1_000));
@@ -40,14 +41,15 @@ pub fn mixed() -> Tables {
         lines: with_spare(lines.collect()),
         items: with_spare(Vec::new()),
     };
-    let room = (LONGEST - tables.image().len()) / ITEM_BYTES;
-    tables.items.rows = random_items(random, room, lists, 1_000);
+    let count = (LONGEST - tables.image().len()) / ITEM_BYTES;
+    tables.items.rows = random_items(random, count, lists, 1_000);
     assert_eq!(tables.image().len(), LONGEST, "bytes of the mixed image");
     tables
 }
 
-/// Every subject below the one before, as many as fit, and a list whose group line the search comes
-/// to only near the top. The deepest subject owns the list, and it alone may edit it.
+/// A chain of subjects, each below the one before, as many as fit. The list has a group line that a
+/// search finds only near the top. The deepest subject owns the list; only it and the custodian may
+/// edit it.
 pub fn chain() -> Tables {
     let deepest = 5_437;
     let below = (0..deepest).map(|parent| [parent, 127, parent]);
@@ -88,8 +90,8 @@ pub fn lines() -> Tables {
     }
 }
 
-/// As many pairs of a subject and an item as fit, which is the longest report: 7,447,441 lines. No
-/// lists and a flat tree, so that the time goes into the printing.
+/// As many pairs of a subject and an item as fit, which gives the longest report: 7,447,441 lines
+/// after the heading. There are no lists and the tree is flat, so the time goes into the printing.
 pub fn most_lines_of_output() -> Tables {
     let mut subjects = vec![[0, 127, 0]; 2_729];
     subjects[0] = CUSTODIAN;
@@ -109,8 +111,9 @@ fn full<const FIELDS: usize>(rows: Vec<[u32; FIELDS]>) -> Table<FIELDS> {
     Table { rows, spare: 0 }
 }
 
-/// Subjects of which each is right below any earlier one. Half were defined by the custodian and
-/// half by their parents, and hold some of what these hold. The last one holds all, to be an editor.
+/// The parent of each subject is a random earlier one. About half of the subjects were defined by
+/// the custodian, the others by their parents, and each has some of its creator's privileges. The
+/// last one has all, to be an editor.
 fn random_tree(random: &mut Random, count: usize) -> Vec<[u32; 3]> {
     let mut rows = vec![CUSTODIAN];
     for number in 1..count {
@@ -141,8 +144,8 @@ fn random_grants(random: &mut Random, count: usize, subjects: &[[u32; 3]]) -> Ve
     grants.into_iter().map(row).collect()
 }
 
-/// How many own and group lines a list has, and below which numbers their subjects are. There is
-/// one more for the owner, for everyone, and for the editor if there is to be one.
+/// How many own and group lines a list has, and the bounds that their subjects' numbers are below.
+/// A list has three more lines: for the owner, for everyone, and for the editor if there is one.
 struct ListShape {
     own: usize,
     own_below: usize,
@@ -164,7 +167,7 @@ impl ListShape {
     }
 }
 
-/// So many different numbers below the bound.
+/// As many different numbers below the bound as `count` says.
 fn distinct(random: &mut Random, count: usize, bound: usize) -> impl Iterator<Item = u32> {
     let mut numbers = BTreeSet::new();
     while numbers.len() < count {
@@ -173,7 +176,7 @@ fn distinct(random: &mut Random, count: usize, bound: usize) -> impl Iterator<It
     numbers.into_iter()
 }
 
-/// Items of which the first are the lists, and the others are governed by any of these.
+/// The first items are the lists. Each of the others is governed by one of these.
 fn random_items(random: &mut Random, count: usize, lists: u32, subjects: usize) -> Vec<[u32; 3]> {
     let mut item = |number| {
         let owner = random.below(subjects) as u32;
@@ -186,7 +189,7 @@ fn random_items(random: &mut Random, count: usize, lists: u32, subjects: usize) 
     (1..=count as u32).map(&mut item).collect()
 }
 
-/// Lists 1, 3, 5 and so on are their own, and each governs the one behind it as well.
+/// Lists 1, 3, 5 and so on govern themselves, and each also governs the list after it.
 fn list_of_list(list: u32) -> u32 {
     list - (list + 1) % 2
 }

@@ -1,4 +1,4 @@
-//! The table in Markdown, and what is said before and after it.
+//! The table in Markdown, and the text before and after it.
 
 use crate::cases::{Case, Search};
 use crate::reports::{FEWEST_RUNS, MOST_RUNS};
@@ -79,7 +79,7 @@ fn print_times([image, operation, library, twin, ratio, decided]: [&str; 6]) {
     );
 }
 
-/// The largest ratios, by what decides the rows.
+/// The largest ratio among the rows of each kind of search.
 pub fn print_summary(rows: &[Row]) {
     println!();
     print_largest("without search", Search::Little, rows);
@@ -100,7 +100,7 @@ fn print_largest(which: &str, search: Search, rows: &[Row]) {
     );
 }
 
-/// Three digits, and the unit that suits them.
+/// A time in three digits and a unit that suits them.
 fn with_unit(seconds: f64) -> String {
     let (number, unit) = match seconds {
         1.0.. => (seconds, "s"),

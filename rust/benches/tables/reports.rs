@@ -1,4 +1,5 @@
-//! The time of a report: of a whole process that reads the image and prints, on either side.
+//! The time of a report, for the library and for the twin: of a whole process that reads the image
+//! and prints.
 
 use crate::timing::Times;
 use crate::twin;
@@ -10,34 +11,34 @@ use std::path::{Path, PathBuf};
 use std::process::{exit, ChildStdout, Command, Stdio};
 use std::time::Instant;
 
-/// Runs of either side where reports are quick, and where they are not.
+/// How many runs each side has if reports are quick, and if they are slow.
 pub const MOST_RUNS: usize = 5;
 pub const FEWEST_RUNS: usize = 3;
 
-/// All runs of the library together are about so long at most, unless they are the fewest.
+/// All runs of the library together take about this long at most, unless there are only the fewest.
 const ROW_SECONDS: f64 = 5.0;
 
-/// With this argument, the program prints the twin's report as the report program prints the
+/// With this argument, the program prints the twin's report, as the report program prints the
 /// library's.
 const TWIN_REPORT: &str = "--twin-report";
 
-/// One byte more than the longest image, so that a longer input is seen to be too long.
+/// One byte more than the longest image has, so that a longer input is refused as too long.
 const INPUT_BYTES: u64 = 65_537;
 
 pub fn asked_for_twin_report() -> bool {
     env::args().any(|argument| argument == TWIN_REPORT)
 }
 
-/// Prints the report on the image that standard input has.
+/// Prints the report on the image from standard input.
 pub fn print_twin_report() -> io::Result<()> {
     let mut image = Vec::new();
     io::stdin().take(INPUT_BYTES).read_to_end(&mut image)?;
-    // Rust's own standard output would look for the last end of a line in each block.
+    // Rust's own standard output would search each block for its last end of line.
     let mut output = File::from(io::stdout().as_fd().try_clone_to_owned()?);
     twin::report(&image, &mut output)
 }
 
-/// Ends the program where there is nothing to measure.
+/// Ends the program if there is no report program to measure.
 pub fn stop_without_report_program() {
     if !report_program().is_file() {
         eprintln!("The report program is missing: `make bench` in the folder above builds it.");
@@ -45,7 +46,7 @@ pub fn stop_without_report_program() {
     }
 }
 
-/// The best of some runs, in which the sides take turns.
+/// The best times of some runs, in which library and twin take turns.
 pub fn time_report(image: &[u8]) -> io::Result<Times> {
     let file = Path::new(env!("CARGO_TARGET_TMPDIR")).join("measured.img");
     fs::write(&file, image)?;
@@ -75,7 +76,7 @@ fn twin_report() -> io::Result<Command> {
     Ok(command)
 }
 
-/// From the start of the process to its end. Its output goes nowhere.
+/// From the start of the process to its end. Its output is thrown away.
 fn time_process(mut command: Command, image: &Path) -> io::Result<f64> {
     command.stdin(File::open(image)?).stdout(Stdio::null());
     let start = Instant::now();
@@ -99,18 +100,18 @@ fn assert_same_report(image: &[u8], file: &Path) -> io::Result<()> {
     Ok(())
 }
 
-/// Takes the twin's report piece by piece, and finds each at the same place of what the report
-/// program printed.
+/// Takes the twin's report piece by piece, and compares each piece with the next bytes that the
+/// report program printed.
 struct Compared {
     printed: ChildStdout,
 }
 
 impl Write for Compared {
     fn write(&mut self, piece: &[u8]) -> io::Result<usize> {
-        let mut same_place = vec![0; piece.len()];
-        let as_long = self.printed.read_exact(&mut same_place).is_ok();
+        let mut next = vec![0; piece.len()];
+        let as_long = self.printed.read_exact(&mut next).is_ok();
         assert!(as_long, "the library's report is shorter than the twin's");
-        assert!(same_place == piece, "the reports differ");
+        assert!(next == piece, "the reports differ");
         Ok(piece.len())
     }
 

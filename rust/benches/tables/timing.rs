@@ -5,22 +5,22 @@ use crate::tables::HEADER_BYTES;
 use std::hint::black_box;
 use std::time::{Duration, Instant};
 
-/// Batches of either side where calls are quick, and where they are not.
+/// How many batches each side has if calls are quick, and if they are slow.
 pub const MOST_BATCHES: usize = 30;
 pub const FEWEST_BATCHES: usize = 3;
 
 const WARM_UP_SECONDS: f64 = 0.5;
 
-/// A batch is about so long, which the clock can tell well, or a single call.
+/// A batch takes about this long, which the clock can measure well, or it is a single call.
 const BATCH_SECONDS: f64 = 0.001;
 
-/// All batches of a row together are about so long at most, unless they are the fewest.
+/// All batches of a row together take about this long at most, unless there are only the fewest.
 const ROW_SECONDS: f64 = 1.5;
 
-/// The copies that a batch changes are no more bytes than this, so that they stay in the cache.
+/// The copies that a batch changes have at most this many bytes, so that they stay in the cache.
 const MOST_COPIED: usize = 512 * 1024;
 
-/// The best time of either side, in seconds.
+/// The best times of the library and of the twin, in seconds.
 #[derive(Clone, Copy)]
 pub struct Times {
     pub library: f64,
@@ -38,7 +38,7 @@ impl Times {
     }
 }
 
-/// Lets the processor come up to its speed before the first row.
+/// Lets the processor reach its full speed before the first row.
 pub fn warm_up(image: &[u8]) {
     let start = Instant::now();
     while start.elapsed().as_secs_f64() < WARM_UP_SECONDS {
@@ -46,7 +46,7 @@ pub fn warm_up(image: &[u8]) {
     }
 }
 
-/// The time of one call. The sides take turns, so that what else the machine does meets both.
+/// The time of one call. Library and twin take turns, so that other work of the machine slows both.
 pub fn time_call(call: &Call, image: &[u8]) -> Times {
     let mut library = Side::new(Call::on_library, call, image);
     let mut twin = Side::new(Call::on_twin, call, image);
@@ -128,7 +128,7 @@ impl<'a> Side<'a> {
         start.elapsed()
     }
 
-    /// Making the copies is not timed, and brings them into the cache.
+    /// The copying is not timed. It also brings the copies into the cache.
     fn batch_on_fresh_copies(&mut self) -> Duration {
         self.copies.clear();
         for _ in 0..self.calls {
@@ -142,7 +142,7 @@ impl<'a> Side<'a> {
     }
 }
 
-/// Does the call add or remove a row? A second one on the same copy would then do something else.
+/// Does the call add or remove a row? A second call on the same copy would then do something else.
 fn changes_a_count(make: Make, call: &Call, image: &[u8]) -> bool {
     if call.only_asks() {
         return false;

@@ -1,11 +1,12 @@
 /*
- * Every function of the header on the sample workshop, accepted and refused. The program needs nothing but the header, so it
- * cannot print: it ends with 0, or with the number of the first check that failed.
+ * Every function of the header on the sample workshop, accepted and refused. The program includes nothing but the
+ * header, so it cannot print. Its exit status is 0, or the number of the first check that failed.
  */
 #include "dacm.h"
 
 /* A field is 32 bits, little-endian. */
-#define FIELD(n) (uint8_t)((n) & 0xff), (uint8_t)((n) >> 8 & 0xff), (uint8_t)((n) >> 16 & 0xff), (uint8_t)((n) >> 24 & 0xff)
+#define FIELD(n) \
+    (uint8_t)((n) & 0xff), (uint8_t)((n) >> 8 & 0xff), (uint8_t)((n) >> 16 & 0xff), (uint8_t)((n) >> 24 & 0xff)
 #define ROW3(a, b, c) FIELD(UINT32_C(a)), FIELD(UINT32_C(b)), FIELD(UINT32_C(c))
 #define ROW4(a, b, c, d) ROW3(a, b, c), FIELD(UINT32_C(d))
 #define ROW5(a, b, c, d, e) ROW4(a, b, c, d), FIELD(UINT32_C(e))
@@ -16,7 +17,8 @@ static const uint8_t sample[LENGTH] = {
     /* used rows and offset of subjects, grants, lines and items, then the total */
     ROW5(6, 36, 1, 120, 5), ROW4(160, 4, 256, 316),
     /* subjects: parent, privileges, creator */
-    ROW3(0, 0xffffffff, 0), ROW3(0, 127, 0), ROW3(1, 91, 1), ROW3(0, 73, 0), ROW3(3, 9, 0), ROW3(2, 3, 1), ROW3(0, 0, 0),
+    ROW3(0, 0xffffffff, 0), ROW3(0, 127, 0), ROW3(1, 91, 1), ROW3(0, 73, 0), ROW3(3, 9, 0), ROW3(2, 3, 1),
+    ROW3(0, 0, 0),
     /* grants: receiver, role, grantor, domain, privileges */
     ROW5(4, 7, 2, 2, 3), ROW5(0, 0, 0, 0, 0),
     /* lines: list, kind, subject, privileges */
@@ -56,14 +58,15 @@ static void accepted(dacm_answer answer, uint32_t result)
     expect(dacm_check(image, LENGTH).number == 0);
 }
 
-/* A refused call has result 0 and leaves every byte of the fresh sample. */
+/* A refused call has result 0 and leaves every byte of the fresh sample as it was. */
 static void refused(dacm_answer answer, uint32_t number)
 {
     expect(answer.number == number && answer.result == 0);
     expect(unchanged());
 }
 
-static const dacm_subject custodian = {0}, first = {1}, second = {2}, third = {3}, fourth = {4}, fifth = {5}, nobody = {6};
+static const dacm_subject custodian = {0}, first = {1}, second = {2}, third = {3}, fourth = {4}, fifth = {5};
+static const dacm_subject nobody = {6};
 static const dacm_role no_role = {0}, seventh = {7};
 static const dacm_item none = {0}, list = {1}, document = {2}, unlisted = {4}, nothing = {5};
 

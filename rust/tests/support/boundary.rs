@@ -13,7 +13,7 @@ pub struct Boundary {
     pub image: Vec<u8>,
 }
 
-/// Tables to choose arguments from: those of the image, or the sample's where it is not accepted.
+/// Tables to choose arguments from: those of the image, or the sample's if it is not accepted.
 pub fn telling_tables(image: &[u8]) -> Tables {
     match twin::check(image).number {
         0 => Tables::read(image),
@@ -46,7 +46,7 @@ fn named(name: impl Into<String>, image: Vec<u8>) -> Boundary {
     }
 }
 
-/// 48 bytes, and 12 more for each spare row.
+/// 48 bytes, and 12 more for each free row.
 pub fn custodian_only(spare: usize) -> Tables {
     Tables {
         subjects: Table {
@@ -57,7 +57,7 @@ pub fn custodian_only(spare: usize) -> Tables {
     }
 }
 
-/// A zero row where the custodian would be.
+/// A zero row where the custodian's row would be.
 fn no_subject() -> Vec<u8> {
     let mut tables = custodian_only(1);
     tables.subjects.rows.clear();
@@ -73,8 +73,8 @@ fn every_table_full() -> Tables {
     tables
 }
 
-/// Every subject below the one before, as many as fit, and a group line that only the end of the
-/// search meets.
+/// A chain of 5,450 subjects, each below the one before. The only group line is the custodian's,
+/// which a search finds last.
 fn chain() -> Tables {
     let below = (0..5_449).map(|parent| [parent, 127, 0]);
     Tables {
@@ -97,7 +97,8 @@ fn chain() -> Tables {
     }
 }
 
-/// Bytes of this length: all alike, with the length recorded, and the sample cut or made longer.
+/// Images of this length: the same byte throughout, and the sample cut or made longer, with its old
+/// total and with this length as its total.
 fn of_length(length: usize) -> Vec<Boundary> {
     let mut images = Vec::new();
     for filler in [0, 0xff] {
@@ -127,8 +128,8 @@ fn headers_alone() -> Vec<Boundary> {
     used.into_iter().map(header).collect()
 }
 
-/// The sample with more rows said to be used than the table has, by one and by so many that the
-/// bytes come out the same if the product is cut to 32 bits.
+/// The sample with more used rows in the header than the table's capacity: one more, and numbers so
+/// large that their product with the bytes of a row can wrap around in 32 bits.
 fn one_row_more_than_there_is(table: usize) -> Vec<Boundary> {
     let capacity = [7, 2, 6, 5][table];
     let more = [1, 1 << 28, 1 << 30, u32::MAX - capacity];

@@ -4,8 +4,8 @@ use crate::twin;
 use dacm::{Flags, Item, Kind, Refusal, Role, Subject};
 use std::ops::Range;
 
-/// One variant for each function of the header. Numbers are plain, so that any number can be handed
-/// over.
+/// One variant for each function of the header. The arguments are plain numbers, so that any number
+/// can be passed.
 #[rustfmt::skip] // one call a line, to be read as a table
 #[derive(Clone, Copy, Debug)]
 pub enum Call {
@@ -25,12 +25,12 @@ pub enum Call {
     HandOver { caller: u32, item: u32, owner: u32 },
 }
 
-/// What a call answered. The part of the image is shown by the lines of a list alone.
+/// What a call answered. Only the lines of a list have a slice of the image that is not empty.
 #[derive(Clone, Debug, PartialEq, Eq)]
 pub struct Outcome {
     pub number: u32,
     pub result: u32,
-    pub part: Range<usize>,
+    pub slice: Range<usize>,
 }
 
 impl Outcome {
@@ -38,33 +38,37 @@ impl Outcome {
         Outcome {
             number,
             result,
-            part: 0..0,
+            slice: 0..0,
         }
     }
 }
 
 impl Call {
     pub const NAMES: [&'static str; 14] = [
+        // Those that ask.
         "check",
         "operation_set",
         "permission_set",
         "list_count",
         "lines_of",
         "find_editor",
+        // Those that write subjects and grants.
         "define_subject",
         "set_grant",
         "remove_grant",
+        // Those that write lines.
         "set_line",
         "remove_line",
+        // Those that write items.
         "create_item",
         "bind",
         "hand_over",
     ];
 
-    /// The names above from here on are of calls that write the image.
+    /// The first of the names above whose call writes the image.
     pub const FIRST_WRITING: usize = 6;
 
-    /// The place of the call's name.
+    /// Which of the names above is the call's.
     fn index(&self) -> usize {
         match self {
             Call::Check => 0,
@@ -120,11 +124,13 @@ impl Call {
                 with_result(dacm::define_subject(image, Subject(caller), Role(role), Subject(parent), privileges)
                     .map(|defined| defined.0)),
             Call::SetGrant { caller, receiver, role, domain, privileges } =>
-                done(dacm::set_grant(image, Subject(caller), Subject(receiver), Role(role), Subject(domain), privileges)),
+                done(dacm::set_grant(image, Subject(caller), Subject(receiver), Role(role), Subject(domain),
+                    privileges)),
             Call::RemoveGrant { caller, receiver, role } =>
                 done(dacm::remove_grant(image, Subject(caller), Subject(receiver), Role(role))),
             Call::SetLine { caller, role, list, kind, subject, privileges } =>
-                done(dacm::set_line(image, Subject(caller), Role(role), Item(list), Kind(kind), Subject(subject), privileges)),
+                done(dacm::set_line(image, Subject(caller), Role(role), Item(list), Kind(kind), Subject(subject),
+                    privileges)),
             Call::RemoveLine { caller, role, list, kind, subject } =>
                 done(dacm::remove_line(image, Subject(caller), Role(role), Item(list), Kind(kind), Subject(subject))),
             Call::CreateItem { caller, role, list, flags } =>
@@ -191,20 +197,20 @@ extern "C" {
 }
 
 fn lines_of_library(image: &[u8], list: u32) -> Outcome {
-    // The crate does not show where a refused call lets the lines begin, but the header promises
-    // byte 0 there too. SAFETY: pointer and length are those of one slice.
+    // The header promises offset 0 if the call is refused. The crate does not show that offset, so
+    // it is asked for directly. SAFETY: pointer and length are those of one slice.
     let start = unsafe { dacm_list_start(image.as_ptr(), image.len(), Item(list)) };
     match dacm::lines_of(image, Item(list)) {
-        Ok(part) => {
-            let shown = part.as_ptr() as usize - image.as_ptr() as usize;
-            assert_eq!(shown, start, "the part shown begins where the lines do");
+        Ok(lines) => {
+            let shown = lines.as_ptr() as usize - image.as_ptr() as usize;
+            assert_eq!(shown, start, "the slice shown begins where the lines do");
             Outcome {
-                part: start..start + part.len(),
+                slice: start..start + lines.len(),
                 ..Outcome::new(0, 0)
             }
         }
         Err(refusal) => Outcome {
-            part: start..start,
+            slice: start..start,
             ..Outcome::new(refusal.number(), 0)
         },
     }
@@ -214,7 +220,7 @@ fn lines_of_twin(image: &[u8], list: u32) -> Outcome {
     let start = twin::list_start(image, list);
     let count = twin::list_count(image, list);
     Outcome {
-        part: start..start + 16 * count.result as usize,
+        slice: start..start + 16 * count.result as usize,
         ..Outcome::new(count.number, 0)
     }
 }

@@ -1,12 +1,12 @@
-//! Random arguments for a call: mostly numbers that mean something in the image, at times the edges
-//! and beyond.
+//! Random arguments for a call: mostly numbers that mean something in the image, at times numbers at
+//! the limits or beyond them.
 
 use super::call::Call;
 use super::random::Random;
 use super::sample::{EVERYONE, OWNER};
 use super::tables::Tables;
 
-/// The roles that random grants use: few, so that they meet.
+/// The roles that random grants use: few, so that calls often name a granted one.
 pub const ROLES: [u32; 4] = [1, 2, 7, u32::MAX];
 
 /// Chooses arguments for calls on an image with these tables.
@@ -27,7 +27,7 @@ impl Chooser<'_> {
         self.call(index)
     }
 
-    /// The call whose name has this place.
+    /// The call with this one of the names.
     pub fn call(&mut self, index: usize) -> Call {
         match Call::NAMES[index] {
             "check" => Call::Check,
@@ -156,7 +156,7 @@ impl Chooser<'_> {
         self.number_below(self.tables.subjects.used())
     }
 
-    /// Items count from 1, so this shifts the numbers by one.
+    /// Item numbers start at 1, so this is a number as for a subject, plus 1.
     fn item(&mut self) -> u32 {
         self.number_below(self.tables.items.used()).wrapping_add(1)
     }
@@ -185,7 +185,7 @@ impl Chooser<'_> {
         }
     }
 
-    /// A subject and a role, half of the time such that the role is granted to the subject.
+    /// A subject and a role. Half of the time they are the receiver and the role of a grant.
     fn asker(&mut self) -> (u32, u32) {
         match self.random.pick_any(&self.tables.grants.rows) {
             Some([receiver, role, ..]) if self.random.one_in(2) => (receiver, role),
@@ -193,7 +193,7 @@ impl Chooser<'_> {
         }
     }
 
-    /// An asker that is the custodian more often than others are, as most others may edit nothing.
+    /// An asker that is often the custodian, because most others may edit nothing.
     fn editor(&mut self) -> (u32, u32) {
         if self.random.one_in(3) {
             (0, self.role())
@@ -202,8 +202,8 @@ impl Chooser<'_> {
         }
     }
 
-    /// Caller, receiver and role, half of the time of a grant that is there, and then often the
-    /// grantor's.
+    /// Caller, receiver and role. Half of the time they are those of an existing grant, with its
+    /// grantor as the caller in half of these cases.
     fn grant(&mut self) -> (u32, u32, u32) {
         match self.random.pick_any(&self.tables.grants.rows) {
             Some([receiver, role, grantor, ..]) if self.random.one_in(2) => {
@@ -213,7 +213,7 @@ impl Chooser<'_> {
         }
     }
 
-    /// List, kind and subject, half of the time of a line that is there.
+    /// List, kind and subject. Half of the time they are those of an existing line.
     fn line(&mut self) -> (u32, u32, u32) {
         match self.random.pick_any(&self.tables.lines.rows) {
             Some([list, kind, subject, _]) if self.random.one_in(2) => (list, kind, subject),
@@ -237,7 +237,7 @@ impl Chooser<'_> {
         Some(owner)
     }
 
-    /// This subject if there is one, half of the time.
+    /// Half of the time this subject, if one is given; otherwise any subject.
     fn one_of_or_subject(&mut self, subject: Option<u32>) -> u32 {
         match subject {
             Some(subject) if self.random.one_in(2) => subject,
@@ -245,7 +245,7 @@ impl Chooser<'_> {
         }
     }
 
-    /// Mostly a number below the bound, at times one at the edges or far out.
+    /// Mostly a number below the bound, at times one at the limits or far beyond.
     fn number_below(&mut self, bound: usize) -> u32 {
         if bound == 0 || self.random.one_in(12) {
             let used = bound as u32;
@@ -265,7 +265,8 @@ impl Chooser<'_> {
     }
 }
 
-/// Sets of privileges of every size, with the seven named ones more often than the host's own.
+/// Sets of privileges of every size. They have the seven named privileges more often than the host's
+/// own.
 pub fn privileges(random: &mut Random) -> u32 {
     match random.below(8) {
         0 => 0,

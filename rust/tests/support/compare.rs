@@ -1,16 +1,16 @@
-//! Every call on both sides, and everything that it answers and leaves held against the other.
+//! A call on the library and on the twin, with everything that it answers and leaves compared.
 
 use super::call::{Call, Outcome};
 use crate::twin;
 
 /// Makes the call on the library and on the twin. Both must answer the same and leave the same
-/// bytes, and where the call is refused or only asks these are the bytes that there were. The image
-/// is then as the call left it.
+/// bytes. If the call is refused or only asks, these must be the bytes from before. Afterwards the
+/// image is as the call left it.
 pub fn compare(image: &mut [u8], call: &Call, seed: &str) -> Outcome {
     compare_made_by(image, call, seed, |image| call.on_library(image))
 }
 
-/// The same, for a caller that makes the call on the library in its own way.
+/// The same, with `on_library` to make the call on the library.
 pub fn compare_made_by(
     image: &mut [u8],
     call: &Call,
@@ -32,7 +32,7 @@ pub fn compare_made_by(
     ours
 }
 
-/// Which of several editors is named is left open, so any that may be named will do.
+/// If there are several editors, it is undecided which of them is named: any of them is right.
 fn agree(image: &[u8], call: &Call, ours: &Outcome, twins: &Outcome) -> bool {
     match *call {
         Call::FindEditor { list } if ours.number == 0 => {

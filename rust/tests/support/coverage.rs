@@ -1,10 +1,10 @@
-//! Which numbers each call answered, so that a test can insist that it met them all.
+//! Which numbers each call answered, so that a test can demand that it saw all of them.
 
 use super::call::{Call, Outcome};
 use std::collections::{BTreeMap, BTreeSet};
 
-/// The questions that concern each call, beside 1 to 7, which concern them all. In the order of the
-/// calls' names.
+/// The questions that each call asks after 1 to 7, which every call asks. In the order of the calls'
+/// names.
 #[rustfmt::skip]
 const QUESTIONS: [&[u32]; Call::NAMES.len()] = [
     /* check          */ &[],
@@ -37,13 +37,13 @@ impl Coverage {
         self.assert_seen(|questions| [&[0], questions].concat());
     }
 
-    /// Each call was refused with each of the questions that concern them all.
+    /// Each call was refused with each of the questions that every call asks.
     pub fn assert_common_questions(&self) {
         self.assert_seen(|_| (1..=7).collect());
     }
 
-    /// No call answered a question that does not concern it, and each answered those that are
-    /// expected.
+    /// No call was refused with a question that it does not ask, and each call answered every
+    /// number that is expected of it.
     fn assert_seen(&self, expected: impl Fn(&[u32]) -> Vec<u32>) {
         for (name, questions) in Call::NAMES.into_iter().zip(QUESTIONS) {
             let seen = self.numbers_of(name);

@@ -1,41 +1,42 @@
-//! Images that were accepted until something happened to them.
+//! Accepted images with random damage.
 
 use super::random::Random;
-use super::tables::{field_count, get_field, places, set_field, Place};
+use super::tables::{field_count, get_field, set_field, spans, Span};
 
-/// Damages an accepted image in one to three places. Some of it may leave the image accepted.
+/// Damages an accepted image one to three times. The image may still be accepted afterwards.
 pub fn damage(random: &mut Random, image: &mut Vec<u8>) {
-    let places = places(image);
+    let spans = spans(image);
     let values = telling_values(image);
     for _ in 0..1 + random.below(3) {
-        let place = random.pick(&places);
+        let span = random.pick(&spans);
         match random.below(10) {
             0 => replace_header_field(random, image, &values),
             1 | 2 => replace_field(random, image, &values),
             3 => flip_bit(random, image),
             4 => change_length(random, image),
-            5 => swap_rows(random, image, &place),
-            6 => repeat_row(random, image, &place),
-            7 | 8 => write_into_unused_row(random, image, &place),
-            _ => replace_row_field(random, image, &place, &values),
+            5 => swap_rows(random, image, &span),
+            6 => repeat_row(random, image, &span),
+            7 | 8 => write_into_unused_row(random, image, &span),
+            _ => replace_row_field(random, image, &span, &values),
         }
     }
 }
 
-/// Values around the counts, offsets and row sizes of this image, and those where arithmetic goes
-/// wrong.
+/// Values that are likely to show a fault: near the counts and offsets of this image, and near the
+/// limits of 32-bit arithmetic.
 pub fn telling_values(image: &[u8]) -> Vec<u32> {
     let length = image.len() as u32;
     let mut values = vec![0, 1, 2, 3, 4, 5, 36, length];
     values.extend([length - 1, length + 1, 65_536, 65_537]);
     values.extend([1 << 31, (1 << 31) - 1, u32::MAX, u32::MAX - 1]);
-    for place in places(image) {
-        let (start, used) = (place.start as u32, place.used as u32);
-        let (capacity, row) = (place.capacity as u32, place.row_bytes as u32);
+    for span in spans(image) {
+        let (start, used) = (span.start as u32, span.used as u32);
+        let (capacity, row) = (span.capacity as u32, span.row_bytes as u32);
         values.extend([used.wrapping_sub(1), used, used + 1, capacity, capacity + 1]);
         values.extend([start - row, start - 4, start - 1]);
         values.extend([start + 1, start + 4, start + row]);
-        // So many rows take as many bytes as the used ones, if the product is cut to 32 bits.
+        // In 32 bits, 2^30 rows more give the same product with the bytes of a row. So do 2^28 more
+        // for rows of 16 bytes.
         values.extend([used + (1 << 28), used + (1 << 30)]);
     }
     values.sort_unstable();
@@ -55,13 +56,13 @@ fn replace_field(random: &mut Random, image: &mut [u8], values: &[u32]) {
     }
 }
 
-/// Replaces a field of a used row by something near its old value.
-fn replace_row_field(random: &mut Random, image: &mut [u8], place: &Place, values: &[u32]) {
-    let bytes = place.used * place.row_bytes;
-    if bytes == 0 || place.start + bytes > image.len() {
+/// Replaces a field of a used row by a number next to its old value, or by one of the values.
+fn replace_row_field(random: &mut Random, image: &mut [u8], span: &Span, values: &[u32]) {
+    let bytes = span.used * span.row_bytes;
+    if bytes == 0 || span.start + bytes > image.len() {
         return;
     }
-    let field = (place.start + random.below(bytes)) / 4;
+    let field = (span.start + random.below(bytes)) / 4;
     let old = get_field(image, field);
     let near = [
         old.wrapping_sub(1),
@@ -77,7 +78,7 @@ fn flip_bit(random: &mut Random, image: &mut [u8]) {
     }
 }
 
-/// Cuts the image or makes it longer, half of the time with the recorded total following.
+/// Cuts the image or makes it longer. Half of the time the new length is recorded as the total.
 fn change_length(random: &mut Random, image: &mut Vec<u8>) {
     let length = match random.below(4) {
         0 => random.up_to(image.len()),
@@ -92,34 +93,34 @@ fn change_length(random: &mut Random, image: &mut Vec<u8>) {
     }
 }
 
-fn swap_rows(random: &mut Random, image: &mut [u8], place: &Place) {
-    let Some((one, other)) = two_rows(random, image, place) else {
+fn swap_rows(random: &mut Random, image: &mut [u8], span: &Span) {
+    let Some((one, other)) = two_rows(random, image, span) else {
         return;
     };
-    for byte in 0..place.row_bytes {
-        image.swap(place.row(one) + byte, place.row(other) + byte);
+    for byte in 0..span.row_bytes {
+        image.swap(span.row(one) + byte, span.row(other) + byte);
     }
 }
 
-fn repeat_row(random: &mut Random, image: &mut [u8], place: &Place) {
-    let Some((one, other)) = two_rows(random, image, place) else {
+fn repeat_row(random: &mut Random, image: &mut [u8], span: &Span) {
+    let Some((one, other)) = two_rows(random, image, span) else {
         return;
     };
-    let from = place.row(one);
-    image.copy_within(from..from + place.row_bytes, place.row(other));
+    let from = span.row(one);
+    image.copy_within(from..from + span.row_bytes, span.row(other));
 }
 
 /// Two neighbouring used rows.
-fn two_rows(random: &mut Random, image: &[u8], place: &Place) -> Option<(usize, usize)> {
-    let is_there = place.used >= 2 && place.row(place.used) <= image.len();
+fn two_rows(random: &mut Random, image: &[u8], span: &Span) -> Option<(usize, usize)> {
+    let is_there = span.used >= 2 && span.row(span.used) <= image.len();
     is_there.then(|| {
-        let first = random.below(place.used - 1);
+        let first = random.below(span.used - 1);
         (first, first + 1)
     })
 }
 
-fn write_into_unused_row(random: &mut Random, image: &mut [u8], place: &Place) {
-    let (start, end) = (place.row(place.used), place.row(place.capacity));
+fn write_into_unused_row(random: &mut Random, image: &mut [u8], span: &Span) {
+    let (start, end) = (span.row(span.used), span.row(span.capacity));
     if start < end && end <= image.len() {
         image[start + random.below(end - start)] = 1 + random.below(255) as u8;
     }

@@ -6,9 +6,9 @@ use super::sample::{EVERYONE, OWNER};
 use super::tables::{Table, Tables};
 use std::collections::BTreeMap;
 
-/// How many used and spare rows each table is to have, in the header's order. Lines and grants may
-/// turn out fewer, where there are not so many different ones; the rows that are left over are
-/// spare then.
+/// How many used and free rows each table is to have, in the header's order. There may be fewer
+/// lines and grants than asked for: rows with the same key count once, and without a list there are
+/// no lines. The rows left over are then free.
 #[derive(Clone, Copy, Debug)]
 pub struct Size {
     pub used: [usize; 4],
@@ -16,7 +16,7 @@ pub struct Size {
 }
 
 impl Size {
-    /// Small enough that all relations happen often.
+    /// Small enough that all relations between subjects and items are frequent.
     pub fn small(random: &mut Random) -> Size {
         Size {
             used: [
@@ -29,7 +29,7 @@ impl Size {
         }
     }
 
-    /// Small at first, with room to grow.
+    /// Small at first, with free rows for many more.
     pub fn growing(random: &mut Random) -> Size {
         Size {
             spare: [30, 12, 24, 20].map(|most| {
@@ -45,13 +45,13 @@ impl Size {
         Size::of_fields(random, 16_375)
     }
 
-    /// Anything between a small one and the longest.
+    /// Any size between a small one and the longest.
     pub fn larger(random: &mut Random) -> Size {
         let fields = 200 + random.below(16_000);
         Size::of_fields(random, fields)
     }
 
-    /// Exactly so many fields, at least 100, in the four tables together.
+    /// The four tables together have exactly this many fields, at least 100.
     fn of_fields(random: &mut Random, fields: usize) -> Size {
         let mut grants = random.up_to(fields / 16);
         let lines = random.up_to(fields / 10);
@@ -63,7 +63,7 @@ impl Size {
         }
         let subjects = 1 + random.below(rest / 3);
         let items = rest / 3 - subjects;
-        // Half of a table at most is spare, so that the custodian is not.
+        // At most half of a table is free, so that the custodian's row is used.
         let capacity = [subjects, grants, lines, items];
         let spare = capacity.map(|rows| random.pick(&[0, 1, rows]).min(rows / 2));
         Size {
@@ -85,7 +85,7 @@ impl Size {
         tables
     }
 
-    /// The table with these rows, and the rest of its capacity spare.
+    /// The table with these rows. The rest of its capacity is free.
     fn table<const FIELDS: usize>(&self, index: usize, rows: Vec<[u32; FIELDS]>) -> Table<FIELDS> {
         let capacity = self.used[index] + self.spare[index];
         Table {
@@ -112,7 +112,8 @@ fn subject_rows(random: &mut Random, count: usize) -> Vec<[u32; 3]> {
             Tree::Flat => 0,
             Tree::Any => random.below(number),
         };
-        // Privileges shrink from creator to created, so half of the subjects are the custodian's.
+        // A subject has only privileges of its creator, so sets shrink from creator to creator.
+        // That is why more than half of the subjects are created by the custodian.
         let creator = if random.one_in(2) {
             0
         } else {
@@ -134,7 +135,7 @@ fn item_rows(random: &mut Random, count: usize, subjects: usize) -> Vec<[u32; 3]
     let row = |(number, flags)| {
         let owner = random.below(subjects) as u32;
         let is_list = flags & 1 != 0;
-        // Any list will do, higher or lower, and a list may be its own.
+        // Any list is allowed, with a higher or a lower number, and a list may be its own.
         let list = match random.pick_any(&lists) {
             Some(_) if is_list && random.one_in(3) => number,
             Some(list) if !random.one_in(6) => list,
@@ -183,8 +184,8 @@ fn grant_rows(random: &mut Random, count: usize, tables: &Tables) -> Vec<[u32; 5
     rows.into_iter().map(row).collect()
 }
 
-/// A subject in the tree of the head. Those below have higher numbers; where a few tries meet none,
-/// the head itself will do.
+/// A subject in the tree of the head. Those below it have higher numbers. If a few random tries find
+/// none, it is the head itself.
 fn in_tree_of(random: &mut Random, tables: &Tables, head: u32) -> u32 {
     let higher = tables.subjects.used() - head as usize;
     (0..4)

@@ -2,8 +2,8 @@
 //! What the tests share: images built from rows, random ones, damaged ones, and calls made on the
 //! library and on the twin.
 //!
-//! Everything random starts from a seed that the failure message prints, and the seeds are always
-//! the same.
+//! Everything random starts from a seed. The seeds are the same in every run, and a failure message
+//! prints its seed.
 
 pub mod boundary;
 pub mod call;
@@ -16,7 +16,7 @@ pub mod random;
 pub mod sample;
 pub mod tables;
 
-/// How many rounds a test does: so many as it says, times the environment variable DACM_ROUNDS.
+/// How many rounds a test does: its own number, times the environment variable DACM_ROUNDS if set.
 pub fn rounds(rounds: u64) -> u64 {
     let times = std::env::var("DACM_ROUNDS").map_or(1, |times| {
         times.parse().expect("DACM_ROUNDS is a whole number")

@@ -29,7 +29,7 @@ impl Random {
         self.below(most + 1)
     }
 
-    /// True once in so many times.
+    /// True with a chance of 1 in `times`.
     pub fn one_in(&mut self, times: usize) -> bool {
         self.below(times) == 0
     }

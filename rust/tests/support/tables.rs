@@ -6,7 +6,7 @@ const FIELD_BYTES: usize = 4;
 /// Fields of a row of each table, in the header's order: subjects, grants, lines, items.
 pub const ROW_FIELDS: [usize; 4] = [3, 5, 4, 3];
 
-/// One table: its used rows, and how many zero rows follow them.
+/// One table: its used rows, and how many free rows follow them.
 #[derive(Clone, Debug, Default)]
 pub struct Table<const FIELDS: usize> {
     pub rows: Vec<[u32; FIELDS]>,
@@ -25,11 +25,11 @@ impl<const FIELDS: usize> Table<FIELDS> {
         body.resize(body.len() + self.spare * FIELDS * FIELD_BYTES, 0);
     }
 
-    fn read(image: &[u8], place: &Place) -> Table<FIELDS> {
-        let row = |row| std::array::from_fn(|field| get_field(image, place.field(row, field)));
+    fn read(image: &[u8], span: &Span) -> Table<FIELDS> {
+        let row = |row| std::array::from_fn(|field| get_field(image, span.field(row, field)));
         Table {
-            rows: (0..place.used).map(row).collect(),
-            spare: place.capacity - place.used,
+            rows: (0..span.used).map(row).collect(),
+            spare: span.capacity - span.used,
         }
     }
 }
@@ -63,7 +63,7 @@ impl Tables {
 
     /// The rows of an accepted image.
     pub fn read(image: &[u8]) -> Tables {
-        let [subjects, grants, lines, items] = places(image);
+        let [subjects, grants, lines, items] = spans(image);
         Tables {
             subjects: Table::read(image, &subjects),
             grants: Table::read(image, &grants),
@@ -92,34 +92,35 @@ impl Tables {
     }
 }
 
-/// Where the rows of a table lie in an image.
+/// A table in an image: the offset of its first row, its used rows, its capacity, and the bytes of a
+/// row.
 #[derive(Clone, Copy, Debug)]
-pub struct Place {
+pub struct Span {
     pub start: usize,
     pub used: usize,
     pub capacity: usize,
     pub row_bytes: usize,
 }
 
-impl Place {
-    /// The first byte of a row.
+impl Span {
+    /// The offset of the row with this index.
     pub fn row(&self, row: usize) -> usize {
         self.start + row * self.row_bytes
     }
 
-    /// The number of a field, counted over the whole image.
+    /// The number of a field, counted from the start of the image.
     fn field(&self, row: usize, field: usize) -> usize {
         self.row(row) / FIELD_BYTES + field
     }
 }
 
-/// Where the tables of an accepted image lie, in the header's order.
-pub fn places(image: &[u8]) -> [Place; 4] {
+/// The tables of an accepted image, in the header's order.
+pub fn spans(image: &[u8]) -> [Span; 4] {
     std::array::from_fn(|table| {
         let start = get_field(image, 2 * table + 1) as usize;
         let next = if table < 3 { 2 * table + 3 } else { 8 };
         let row_bytes = ROW_FIELDS[table] * FIELD_BYTES;
-        Place {
+        Span {
             start,
             used: get_field(image, 2 * table) as usize,
             capacity: (get_field(image, next) as usize - start) / row_bytes,

@@ -36,8 +36,8 @@ pub fn list_count(image: &[u8], list: u32) -> Answer {
     answer(|| Ok(list_rows(image, list)?.len() as u32))
 }
 
-/// The first byte of the list's rows. "A refused call, and a list without rows,
-/// shows the empty part at byte 0."
+/// The offset of the list's rows. It is 0 if the call is refused or if the list
+/// has no rows.
 pub fn list_start(image: &[u8], list: u32) -> usize {
     match list_rows(image, list) {
         Ok(rows) if !rows.is_empty() => LINES.start(image, rows.start),
@@ -51,7 +51,8 @@ fn list_rows(image: &[u8], list: u32) -> Result<Range<usize>, Refused> {
     Ok(image.lines_of(list))
 }
 
-/// Which of several subjects is left open: this names the lowest.
+/// If several subjects may edit the list, it is undecided which of them is named.
+/// This implementation names the one with the lowest number.
 pub fn find_editor(image: &[u8], list: u32) -> Answer {
     answer(|| {
         let image = Image::open(image)?;
@@ -62,8 +63,8 @@ pub fn find_editor(image: &[u8], list: u32) -> Answer {
     })
 }
 
-/// May the editor search on this list name this subject? No for an image that is
-/// not accepted, and for what is not a list.
+/// May the editor search on this list name this subject? No if the image is not
+/// accepted, and no if the item is not a list.
 pub fn is_editor(image: &[u8], list: u32, subject: u32) -> bool {
     let Ok(image) = Image::open(image) else {
         return false;

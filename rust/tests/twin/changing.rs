@@ -1,5 +1,5 @@
 //! The calls that change the image. Each reads through a view until its last
-//! question is answered, and writes then.
+//! question is answered, and only then writes.
 
 use super::image::Image;
 use super::permission::{operation_set, permission_set, CREATE_ITEMS, DEFINE_SUBJECTS, EDIT_LIST};
@@ -9,9 +9,9 @@ use super::rows::{
 use super::table::{GRANTS, ITEMS, LINES, SUBJECTS};
 use super::{answer, ask, Answer, Refused};
 
-/// The right to define may come from the claimed role, and so may the tree, but
-/// the new subject's privileges come from the caller's own row alone. For the
-/// custodian that is "as given", as his row holds all.
+/// The claimed role may give the right to define, and its grantor's tree counts
+/// too. But the new subject's privileges come from the caller's own row alone.
+/// The custodian's row has all privileges, so he passes on whatever is given.
 pub fn define_subject(
     image: &mut [u8],
     caller: u32,
@@ -33,7 +33,7 @@ pub fn define_subject(
             view.in_tree(parent, caller)
                 || grant.is_some_and(|grant| view.in_tree(parent, grant.grantor)),
         )?;
-        ask(19, view.subjects.has_room())?;
+        ask(19, view.subjects.has_free_row())?;
         let number = view.subject_count();
         let subject = Subject {
             parent,
@@ -45,8 +45,8 @@ pub fn define_subject(
     })
 }
 
-/// Anybody in use may grant within his tree. The privileges are stored as given:
-/// they are cut whenever the grant is used, by what the grantor has then.
+/// Any subject in use may grant within its tree. The privileges are stored
+/// unchanged. What the grantor lacks is taken off each time the grant is used.
 pub fn set_grant(
     image: &mut [u8],
     caller: u32,
@@ -70,12 +70,12 @@ pub fn set_grant(
         };
         match view.find_grant(receiver, role) {
             Ok(row) => {
-                // "Free or the caller's": also for the custodian.
+                // Not even the custodian may overwrite another's grant.
                 ask(18, Grant::read(&view.grants.used[row]).grantor == caller)?;
                 GRANTS.overwrite(image, row, grant.bytes());
             }
             Err(row) => {
-                ask(19, view.grants.has_room())?;
+                ask(19, view.grants.has_free_row())?;
                 GRANTS.insert(image, row, grant.bytes());
             }
         }
@@ -118,7 +118,7 @@ pub fn set_line(
         match view.find_line(list, kind, subject) {
             Ok(row) => LINES.overwrite(image, row, line.bytes()),
             Err(row) => {
-                ask(19, view.lines.has_room())?;
+                ask(19, view.lines.has_free_row())?;
                 LINES.insert(image, row, line.bytes());
             }
         }
@@ -145,8 +145,8 @@ pub fn remove_line(
     })
 }
 
-/// Questions 10 to 15 of set line and remove line. The subject is one named for
-/// every kind, so 11 is asked of it even where 14 then wants it to be 0.
+/// Questions 10 to 15 of set line and remove line. Question 11 is asked for every
+/// kind, also for those whose subject must be 0 by question 14.
 fn ask_for_line(
     view: &Image,
     caller: u32,
@@ -173,7 +173,7 @@ pub fn create_item(image: &mut [u8], caller: u32, role: u32, list: u32, flags: u
         ask(14, flags <= ALL_FLAGS)?;
         let grant = view.grant(caller, role);
         ask(15, operation_set(&view, caller, grant) & CREATE_ITEMS != 0)?;
-        ask(19, view.items.has_room())?;
+        ask(19, view.items.has_free_row())?;
         let row = view.item_count();
         let item = Item {
             owner: caller,
@@ -185,8 +185,8 @@ pub fn create_item(image: &mut [u8], caller: u32, role: u32, list: u32, flags: u
     })
 }
 
-/// No right on the list is asked for. The custodian may bind a locked item too:
-/// "the owner of an unlocked item, or the custodian".
+/// The caller needs no right on the list. The owner may bind the item unless it
+/// is locked; the custodian may in any case.
 pub fn bind(image: &mut [u8], caller: u32, item: u32, list: u32) -> Answer {
     answer(|| {
         let view = Image::open(image)?;
@@ -212,7 +212,7 @@ pub fn hand_over(image: &mut [u8], caller: u32, item: u32, owner: u32) -> Answer
     })
 }
 
-/// Writes the row of an item in use, which counts from 1.
+/// Writes the row of an item in use. Item numbers start at 1, indexes at 0.
 fn write_item(image: &mut [u8], number: u32, item: Item) {
     ITEMS.overwrite(image, number as usize - 1, item.bytes());
 }

@@ -1,4 +1,4 @@
-//! The view of an image: its four tables as rows, read in place.
+//! The view of an image: the rows of its four tables, without a copy.
 
 use super::rows::{
     words, Grant, Item, Line, Subject, GRANT, ITEM, LINE, NO_LIST, NO_ROLE, SUBJECT,
@@ -7,7 +7,7 @@ use std::ops::Range;
 
 pub const HEADER: usize = 36;
 
-/// One table's rows. Both parts are slices of the image itself.
+/// One table's rows, as two slices of the image itself.
 #[derive(Clone, Copy)]
 pub struct Rows<'a, const N: usize> {
     pub used: &'a [[u8; N]],
@@ -15,10 +15,10 @@ pub struct Rows<'a, const N: usize> {
 }
 
 impl<'a, const N: usize> Rows<'a, N> {
-    /// The table from byte `start` to byte `end`. None where the offset falls or
-    /// lies past the image, where the table is not whole rows, and where more
-    /// rows are used than there are. Nothing is added or multiplied, so numbers
-    /// of any size do no harm.
+    /// The table from offset `start` to offset `end`. None if `end` is below
+    /// `start` or past the image, if the bytes are not whole rows, and if more
+    /// rows are used than the table can hold. Nothing is added or multiplied, so
+    /// no number can overflow.
     fn between(image: &'a [u8], used: u32, start: u32, end: u32) -> Option<Self> {
         let (rows, rest) = image.get(start as usize..end as usize)?.as_chunks::<N>();
         if !rest.is_empty() {
@@ -28,7 +28,7 @@ impl<'a, const N: usize> Rows<'a, N> {
         Some(Rows { used, unused })
     }
 
-    pub fn has_room(&self) -> bool {
+    pub fn has_free_row(&self) -> bool {
         !self.unused.is_empty()
     }
 
@@ -37,8 +37,8 @@ impl<'a, const N: usize> Rows<'a, N> {
     }
 }
 
-/// The four tables of an image. Made by `Image::open` it is an accepted one, and
-/// then whatever subject or item a row names is in use.
+/// The four tables of an image. `Image::open` makes it only of an accepted image.
+/// In that, every subject and item that a row names is in use.
 #[derive(Clone, Copy)]
 pub struct Image<'a> {
     pub subjects: Rows<'a, SUBJECT>,
@@ -48,7 +48,7 @@ pub struct Image<'a> {
 }
 
 impl<'a> Image<'a> {
-    /// The tables as the header tells them: None where question 2 is a no.
+    /// The tables as the header gives them. None if question 2 is answered no.
     pub fn parse(image: &'a [u8]) -> Option<Image<'a>> {
         let header: &[u8; HEADER] = image.first_chunk()?;
         let [subjects, subjects_at, grants, grants_at, lines, lines_at, items, items_at, total] =
@@ -64,7 +64,7 @@ impl<'a> Image<'a> {
         })
     }
 
-    /// How many subjects are in use, which is also the next one's number.
+    /// How many subjects are in use. The next new subject gets this number.
     pub fn subject_count(&self) -> u32 {
         self.subjects.used.len() as u32
     }
@@ -82,18 +82,20 @@ impl<'a> Image<'a> {
         self.items.used.len() as u32
     }
 
-    /// "Item n is row n − 1." None where it is not in use.
+    /// The row of an item: its index is one below its number. None if the item
+    /// is not in use.
     pub fn item(&self, item: u32) -> Option<Item> {
         let row = item.checked_sub(1)?;
         self.items.used.get(row as usize).map(Item::read)
     }
 
-    /// The item's row if it is in use with flag bit 0: the yes to question 13.
+    /// The row of an item that is an access list. None if question 13 is answered
+    /// no.
     pub fn list(&self, list: u32) -> Option<Item> {
         self.item(list).filter(|item| item.is_list())
     }
 
-    /// Which of the line rows are the list's.
+    /// The indexes of the list's lines.
     pub fn lines_of(&self, list: u32) -> Range<usize> {
         let lines = self.lines.used;
         let start = lines.partition_point(|row| Line::read(row).list < list);
@@ -101,14 +103,14 @@ impl<'a> Image<'a> {
         start..start + count
     }
 
-    /// The row of this line, or else the row it would be put at.
+    /// The index of this line, or else its insertion index.
     pub fn find_line(&self, list: u32, kind: u32, subject: u32) -> Result<usize, usize> {
         self.lines
             .used
             .binary_search_by_key(&(list, kind, subject), |row| Line::read(row).key())
     }
 
-    /// The privileges of this line, if there is one. "No list means no lines."
+    /// The privileges of this line, if there is one. List 0 has no lines.
     pub fn line(&self, list: u32, kind: u32, subject: u32) -> Option<u32> {
         if list == NO_LIST {
             return None;
@@ -117,15 +119,15 @@ impl<'a> Image<'a> {
         Some(Line::read(&self.lines.used[row]).privileges)
     }
 
-    /// The row of this grant, or else the row it would be put at.
+    /// The index of this grant, or else its insertion index.
     pub fn find_grant(&self, receiver: u32, role: u32) -> Result<usize, usize> {
         self.grants
             .used
             .binary_search_by_key(&(receiver, role), |row| Grant::read(row).key())
     }
 
-    /// The grant under a claimed role. "Without one the role adds nothing and
-    /// this is no refusal"; role 0 never has one.
+    /// The grant under a claimed role. Role 0 has none. Claiming a role without a
+    /// grant is allowed and adds nothing.
     pub fn grant(&self, subject: u32, role: u32) -> Option<Grant> {
         if role == NO_ROLE {
             return None;
@@ -134,9 +136,9 @@ impl<'a> Image<'a> {
         Some(Grant::read(&self.grants.used[row]))
     }
 
-    /// "A subject's tree is the subject and all below it": is the subject in the
-    /// tree of `head`? It ends because every parent's number is lower; below the
-    /// number of `head` the way up cannot meet it.
+    /// Is the subject `head` itself or below it? Each parent has a lower number
+    /// than its child, so the loop ends. It stops at the first number that is not
+    /// above `head`, because the parents beyond are lower still.
     pub fn in_tree(&self, subject: u32, head: u32) -> bool {
         let mut reached = subject;
         while reached > head {

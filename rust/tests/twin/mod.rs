@@ -1,13 +1,13 @@
 #![allow(dead_code)]
 //! A second implementation of the access tables, written from the paper.
 //!
-//! Tests compare it with the implementation under test, benchmarks take it as
-//! the baseline. It speaks in plain numbers, so it shares no type with either.
-//! A test binary may use only some of the calls, hence the attributes here.
+//! Tests compare the library with it, and benchmarks take it as the baseline. It
+//! takes and answers plain numbers, so it shares no type with the library. A test
+//! program may use only some of the calls, hence the attributes here.
 //!
-//! Every call opens the image first, which asks questions 1 to 7, and then asks
-//! its own questions in the paper's order. The calls that change the image
-//! write only after their last question, so a refused one leaves every byte.
+//! Every call opens the image first, which asks questions 1 to 7. Then it asks
+//! its own questions in the paper's order. The calls that change the image write
+//! only after their last question, so a refused one leaves every byte as it was.
 
 mod asking;
 mod changing;
@@ -29,15 +29,14 @@ pub use changing::{
 #[allow(unused_imports)]
 pub use report::report;
 
-/// What a call answers: number 0 and the result, or the number of the first
-/// question answered no and result 0.
+/// What a call answers: number 0 and its result, or the refusal and result 0.
 #[derive(Clone, Copy, Debug, PartialEq, Eq)]
 pub struct Answer {
     pub number: u32,
     pub result: u32,
 }
 
-/// The number of the first question answered no.
+/// The refusal: the number of the first question answered no.
 struct Refused(u32);
 
 /// Asks one question.
@@ -49,7 +48,7 @@ fn ask(number: u32, yes: bool) -> Result<(), Refused> {
     }
 }
 
-/// Makes a call and puts its outcome into an answer.
+/// Makes a call and turns its result or refusal into an answer.
 fn answer(call: impl FnOnce() -> Result<u32, Refused>) -> Answer {
     match call() {
         Ok(result) => Answer { number: 0, result },

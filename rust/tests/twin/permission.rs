@@ -3,15 +3,15 @@
 use super::image::Image;
 use super::rows::{Grant, Item, ALL, CUSTODIAN, EVERYONE, GROUP, ITSELF, NO_ROLE, OWNER};
 
-/// Privileges that calls need, by their positions.
+/// The privileges that calls need: bits 4, 5 and 6 of a set.
 pub const CREATE_ITEMS: u32 = 1 << 4;
 pub const DEFINE_SUBJECTS: u32 = 1 << 5;
 pub const EDIT_LIST: u32 = 1 << 6;
 
-/// The lines' part. A line found ends the search "even if it holds 0", so what
-/// counts is whether there is one. The owner's own line is never looked at: "an
-/// owner without an owner line goes straight to the group search". The line for
-/// everyone is added whatever was found, or nothing.
+/// The lines' part. The first line found decides, even one without privileges:
+/// `None` and `Some(0)` differ. For the item's owner the owner line counts, and a
+/// line for the subject itself does not. If that first line is missing, the groups
+/// above the subject are searched. The line for everyone is added in any case.
 fn lines_part(image: &Image, subject: u32, item: Item) -> u32 {
     if subject == CUSTODIAN {
         return ALL;
@@ -26,8 +26,8 @@ fn lines_part(image: &Image, subject: u32, item: Item) -> u32 {
     found.unwrap_or(0) | everyone.unwrap_or(0)
 }
 
-/// The group line of the nearest subject above that has one. "Past the custodian
-/// there is nothing": his own group line is the last one looked for.
+/// The group line of the nearest subject above that has one. The custodian's
+/// group line is the last one that is looked for.
 fn group_line(image: &Image, list: u32, subject: u32) -> Option<u32> {
     let mut below = subject;
     while below != CUSTODIAN {
@@ -40,8 +40,8 @@ fn group_line(image: &Image, list: u32, subject: u32) -> Option<u32> {
     None
 }
 
-/// "The privileges of s, with those of the grant that its grantor also has": in
-/// his own row. The domain plays no part here.
+/// The subject's own privileges, and those of the grant that the grantor's own row
+/// has too. The domain does not matter here.
 pub fn operation_set(image: &Image, subject: u32, grant: Option<Grant>) -> u32 {
     let own = image.subject(subject).privileges;
     match grant {
@@ -50,8 +50,9 @@ pub fn operation_set(image: &Image, subject: u32, grant: Option<Grant>) -> u32 {
     }
 }
 
-/// The grant's privileges count here as far as the grantor's lines' part goes,
-/// not his row, and only where the item's owner is in the domain's tree.
+/// The lines' part, and the role's part if the item's owner is in the domain's
+/// tree. The role's part is those privileges of the grant that are also in the
+/// grantor's lines' part; the grantor's own row does not matter here.
 fn object_set(image: &Image, subject: u32, grant: Option<Grant>, item: Item) -> u32 {
     let own = lines_part(image, subject, item);
     match grant {
@@ -67,8 +68,8 @@ pub fn permission_set(image: &Image, subject: u32, role: u32, item: Item) -> u32
     operation_set(image, subject, grant) & object_set(image, subject, grant, item)
 }
 
-/// May the editor search on this list name this subject? What decides is the
-/// list as an item: the lines of the list's own list, not the ones in it.
+/// May the editor search on this list name this subject? The list is taken as an
+/// item here: the lines of its own list decide, not its own lines.
 pub fn may_be_named(image: &Image, list: Item, subject: u32) -> bool {
     subject != CUSTODIAN && permission_set(image, subject, NO_ROLE, list) & EDIT_LIST != 0
 }

@@ -1,5 +1,5 @@
-//! Questions 1 to 7, which concern every call. Each relies on those before it:
-//! lines need the items' flags, the domain of a grant needs the tree.
+//! Questions 1 to 7, which every call asks. Each relies on those before it: the
+//! rules of the lines use the items' flags, the rules of the grants use the tree.
 
 use super::image::{Image, HEADER};
 use super::rows::{line_in_range, Grant, Item, Line, Subject, ALL, ALL_FLAGS, NO_LIST, NO_ROLE};
@@ -21,9 +21,9 @@ impl<'a> Image<'a> {
     }
 }
 
-/// "Row 0 is parent 0, privileges all, creator 0. In other rows parent and
-/// creator are below the row's number, and the privileges lie within the
-/// creator's": within his own row, whatever his roles may add.
+/// Row 0 is the custodian's. Any other row names a parent and a creator with lower
+/// numbers, and has no privilege that the creator's row lacks. What the creator
+/// has by a role does not count.
 fn subjects_hold(image: &Image) -> bool {
     let custodian = Subject {
         parent: 0,

@@ -12,7 +12,7 @@ const BLOCK: usize = 64 * 1024;
 const LONGEST_LINE: usize = 33;
 
 /// The report on these bytes: a line for each subject and item under role 0, or
-/// the refusal, which for more than 65,536 bytes is that of question 1.
+/// the refusal. For more than 65,536 bytes that is 1.
 pub fn report(image: &[u8], out: &mut impl Write) -> Result<()> {
     let mut text = Vec::with_capacity(BLOCK);
     match Image::open(image) {
@@ -25,7 +25,7 @@ pub fn report(image: &[u8], out: &mut impl Write) -> Result<()> {
     out.write_all(&text)
 }
 
-/// Leaves the last, partly filled block in `text`.
+/// Writes full blocks to `out` and leaves the last, partly filled one in `text`.
 fn report_sets(image: &Image, text: &mut Vec<u8>, out: &mut impl Write) -> Result<()> {
     text.extend_from_slice(b"subject item set\n");
     for subject in 0..image.subject_count() {
@@ -43,7 +43,7 @@ fn report_sets(image: &Image, text: &mut Vec<u8>, out: &mut impl Write) -> Resul
     Ok(())
 }
 
-/// A number's decimal digits, at the end of ten places.
+/// A number's decimal digits, at the end of ten bytes.
 struct Decimal {
     digits: [u8; 10],
     start: usize,

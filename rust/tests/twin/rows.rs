@@ -2,7 +2,7 @@
 
 use std::array;
 
-/// Sizes in bytes of a row of each table.
+/// How many bytes a row of each table has.
 pub const SUBJECT: usize = 12;
 pub const GRANT: usize = 20;
 pub const LINE: usize = 16;
@@ -92,7 +92,7 @@ impl Grant {
         ])
     }
 
-    /// "Strictly ascending by receiver, then role."
+    /// The table is sorted by this key, and no two rows have the same.
     pub fn key(self) -> (u32, u32) {
         (self.receiver, self.role)
     }
@@ -113,7 +113,7 @@ impl Line {
         bytes([self.list, self.kind, self.subject, self.privileges])
     }
 
-    /// "Strictly ascending by list, kind, subject."
+    /// The table is sorted by this key, and no two rows have the same.
     pub fn key(self) -> (u32, u32, u32) {
         (self.list, self.kind, self.subject)
     }
@@ -138,8 +138,8 @@ impl Item {
     }
 }
 
-/// "Kind at most 3, subject 0 for kinds 2 and 3": a rule of the line rows, and
-/// of the fields that set line and remove line are given.
+/// Is this a kind of line, and is the subject 0 where the kind requires it? This
+/// is a rule of the line rows, and of the arguments of set line and remove line.
 pub fn line_in_range(kind: u32, subject: u32) -> bool {
     match kind {
         ITSELF | GROUP => true,
@@ -148,7 +148,7 @@ pub fn line_in_range(kind: u32, subject: u32) -> bool {
     }
 }
 
-/// "Every field is 32 bits, little-endian."
+/// The fields of a row: 4 bytes each, little-endian.
 pub fn words<const N: usize, const FIELDS: usize>(row: &[u8; N]) -> [u32; FIELDS] {
     array::from_fn(|n| word(row, 4 * n))
 }
@@ -160,8 +160,8 @@ pub fn word(bytes: &[u8], at: usize) -> u32 {
 
 fn bytes<const N: usize, const FIELDS: usize>(fields: [u32; FIELDS]) -> [u8; N] {
     let mut row = [0; N];
-    for (place, field) in row.chunks_exact_mut(4).zip(fields) {
-        place.copy_from_slice(&field.to_le_bytes());
+    for (chunk, field) in row.chunks_exact_mut(4).zip(fields) {
+        chunk.copy_from_slice(&field.to_le_bytes());
     }
     row
 }

@@ -1,10 +1,10 @@
-//! Writing rows. Capacities, offsets and the total never change; of the header
-//! only a table's count of used rows does.
+//! Writing rows. Of the header, only the counts of used rows ever change: offsets,
+//! capacities and the total stay the same.
 
 use super::rows::{word, GRANT, ITEM, LINE, SUBJECT};
 
-/// A table of rows of N bytes, known by the byte of the header that holds its
-/// count of used rows. Its offset is the field after that.
+/// A table of rows of N bytes. `count_at` is the offset of the header field with
+/// its count of used rows. The next field is the table's own offset.
 pub struct Table<const N: usize> {
     count_at: usize,
 }
@@ -23,12 +23,12 @@ impl<const N: usize> Table<N> {
         image[self.count_at..self.count_at + 4].copy_from_slice(&count.to_le_bytes());
     }
 
-    /// The first byte of a row.
+    /// The offset of the row with this index.
     pub fn start(&self, image: &[u8], row: usize) -> usize {
         word(image, self.count_at + 4) as usize + N * row
     }
 
-    /// The byte behind the last used row.
+    /// The offset behind the last used row.
     fn end(&self, image: &[u8]) -> usize {
         self.start(image, self.count(image) as usize)
     }
@@ -38,8 +38,8 @@ impl<const N: usize> Table<N> {
         image[start..start + N].copy_from_slice(&bytes);
     }
 
-    /// "A new row goes to its sorted place": those from there on make room.
-    /// Question 19 has found a row free.
+    /// Puts a new row at its insertion index. The rows from there on move up by
+    /// one. Question 19 has made sure of a free row.
     pub fn insert(&self, image: &mut [u8], row: usize, bytes: [u8; N]) {
         let start = self.start(image, row);
         let end = self.end(image);
@@ -48,7 +48,8 @@ impl<const N: usize> Table<N> {
         self.set_count(image, self.count(image) + 1);
     }
 
-    /// "A removed one closes up", and the row that falls free becomes zero.
+    /// Removes a row. The rows behind it move down by one, and the row that becomes
+    /// free is filled with zeros.
     pub fn remove(&self, image: &mut [u8], row: usize) {
         let start = self.start(image, row);
         let end = self.end(image);

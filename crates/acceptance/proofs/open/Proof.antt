@@ -1,4 +1,4 @@
--- `acceptance::open` meets its contract: the questions by the layout of the header are those of the image.
+-- `acceptance::open` meets its contract: the questions by the layout in the header are the questions about the image.
 use borrow.Author.Needs.{needs}
 use Rattle.laws.specs.Opens.{opened-no, opened-yes, opened-also}
 use Rattle.acceptance.specs.Seven.{answered-by, answered-all}

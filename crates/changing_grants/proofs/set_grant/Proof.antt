@@ -1,4 +1,4 @@
--- `changing_grants::set_grant` meets its contract: the answer at each return, and by it the image.
+-- `changing_grants::set_grant` meets its contract: first the answer at each return, and from the answer the image.
 use borrow.Author.Needs.{needs}
 use Rattle.model.specs.Calls.{changeResult}
 use Rattle.laws.specs.Opens.{refused-not}
@@ -59,9 +59,13 @@ same-length-3 c = search needs
 returns-3 : tie.Need-returns-3
 unfolding changeResult
 returns-3 c =
-    let opened = c .before .before .before .before .before .before .before .before .before .before .before .before .before .before .«open» .ensures .0 in
+    let opened =
+    c .before .before .before .before .before .before .before .before .before .before .before .before .before .before
+    .«open» .ensures .0 in
     let asked = c .before .before .before .before .before .before .before .before .before .set-grant-storing .ensures .0 in
-    let image = c .before .before .before .before .before .before .before .before .before .before .before .before .before .before .before .before .slice-known .given in
+    let image =
+    c .before .before .before .before .before .before .before .before .before .before .before .before .before .before .before .before
+    .slice-known .given in
     also _ _ _ _ (search (act-passed, store-passed, opened, asked)) (λ h. search (grant-set, opened, asked, image))
 
 pub set-grant-spec : {M : Type 1} → statement M

@@ -1,4 +1,4 @@
--- `changing_items::create_item` meets its contract: the answer at each return, and by it the image.
+-- `changing_items::create_item` meets its contract: first the answer at each return, and from the answer the image.
 use borrow.Author.Needs.{needs}
 use Rattle.laws.specs.Opens.{refused-not}
 use Rattle.laws.specs.Acts.{act-image, act-no, act-done, also, kept}

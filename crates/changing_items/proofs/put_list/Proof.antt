@@ -1,7 +1,7 @@
--- `changing_items::put_list` meets its contract: the row was made of the one that was read.
+-- `changing_items::put_list` meets its contract: the new row is made of the one that was read.
 use borrow.Author.Needs.{needs}
 use Rattle.model.specs.Image.{tablesBy}
-use Rattle.changing_items.specs.Items.{row-anew, list-anew}
+use Rattle.changing_items.specs.Items.{row-replaced, list-replaced}
 use Rattle.changing_items.proofs.put_list.Statement.{statement}
 use Rattle.changing_items.proofs.put_list.Tie as tie
 
@@ -19,7 +19,7 @@ same-length c = search needs
 
 returns : tie.Need-returns
 unfolding tablesBy
-returns c = search (row-anew, list-anew)
+returns c = search (row-replaced, list-replaced)
 
 pub put-list-spec : {M : Type 1} → statement M
 put-list-spec =

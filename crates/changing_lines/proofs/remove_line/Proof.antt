@@ -1,4 +1,4 @@
--- `changing_lines::remove_line` meets its contract: the answer at each return, and by it the image.
+-- `changing_lines::remove_line` meets its contract: first the answer at each return, and from the answer the image.
 use borrow.Author.Needs.{needs}
 use Rattle.model.specs.Calls.{changeResult}
 use Rattle.laws.specs.Opens.{refused-not}

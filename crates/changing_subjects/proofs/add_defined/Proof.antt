@@ -1,4 +1,4 @@
--- `changing_subjects::add_defined` meets its contract: the row was made of what callees gave.
+-- `changing_subjects::add_defined` meets its contract: the row is made of what the called functions answer.
 use borrow.Author.Needs.{needs}
 use Rattle.changing_subjects.specs.Subjects.{defined-row}
 use Rattle.changing_subjects.proofs.add_defined.Statement.{statement}

@@ -1,4 +1,4 @@
--- `changing_subjects::new_privileges` meets its contract: by who calls.
+-- `changing_subjects::new_privileges` meets its contract: the custodian calls, or another subject does.
 use borrow.Author.Needs.{needs}
 use Rattle.changing_subjects.specs.Subjects.{new-privileges-given, new-privileges-cut}
 use Rattle.changing_subjects.proofs.new_privileges.Statement.{statement}

@@ -1,4 +1,5 @@
--- `model::has` meets its contract: the set meets the mask of the position exactly where it has the position.
+-- `model::has` meets its contract: the set and the mask of the position have a bit in common exactly when the set has the
+-- position.
 use borrow.Author.Needs.{needs}
 use Rattle.model.proofs.Positions.{meets}
 use Rattle.model.proofs.has.Statement.{statement}

@@ -1,4 +1,4 @@
--- `model::mask` meets its contract: each entry of the table is the power of two of its place.
+-- `model::mask` meets its contract: each entry of the table is the power of two of its index.
 use Prim.Native.Nat.{_<_}
 use borrow.Author.Needs.{needs}
 use borrow.Author.Tests.{le-ltb}

@@ -1,4 +1,5 @@
--- `model::needed_position` meets its contract: each entry of the table is the position that question 15 names for the call of its place.
+-- `model::needed_position` meets its contract: each entry of the table is the position that question 15 names for
+-- the call whose number is the entry's index.
 use Prim.Native.Nat.{_<_}
 use borrow.Author.Needs.{needs}
 use Rattle.model.specs.WhoAndWhat.{neededPosition}

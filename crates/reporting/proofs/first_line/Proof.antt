@@ -24,7 +24,9 @@ put-bytes-requires-2 c κs = search needs
 
 returns-2 : tie.Need-returns-2
 returns-2 c =
-    let wanted = first-refused (c .before .before .before .before .before .before .args .number) (c .before .before .before .before .before .if1 .left) in
+    let wanted =
+    first-refused (c .before .before .before .before .before .before .args .number)
+    (c .before .before .before .before .before .if1 .left) in
     let put = refusal-put _ _ _ _ _ _ (c .before .before .before .put-number .ensures .0) (c .put-bytes2 .ensures) in
     (ends-at _ _ _ _ _ wanted (search needs) put, ends-in _ _ _ _ _ wanted (search needs) put)
 

@@ -12,7 +12,15 @@ cast-result-2 : tie.Need-cast-result-2
 cast-result-2 c = search needs
 
 mul-result : tie.Need-mul-result
-mul-result c = record { fits = omega (arith, product-small (c .before .before .before .before .args .layout .subjects .used) (c .before .before .before .before .args .layout .items .used) (search needs) (search needs)) }
+mul-result c =
+    record {
+      fits =
+          omega (
+            arith,
+            product-small (c .before .before .before .before .args .layout .subjects .used)
+                (c .before .before .before .before .args .layout .items .used) (search needs) (search needs),
+          );
+    }
 
 returns : tie.Need-returns
 returns c = (lines-count _ _, product-small _ _ (search needs) (search needs))

@@ -1,4 +1,4 @@
--- `store::replace_item` meets its contract: item n is row n - 1.
+-- `store::replace_item` meets its contract: item n is the row with index n - 1.
 use borrow.Author.Needs.{needs}
 use Rattle.store.specs.StoreLaws.{item-none, item-over}
 use Rattle.store.proofs.replace_item.Statement.{statement}

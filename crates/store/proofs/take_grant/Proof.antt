@@ -1,4 +1,4 @@
--- `store::take_grant` meets its contract: the size is the format's.
+-- `store::take_grant` meets its contract: the size of a row is the format's.
 use borrow.Author.Needs.{needs}
 use Rattle.laws.specs.Rows.{grant-lawful}
 use Rattle.store.specs.StoreLaws.{row-removed}

@@ -1,4 +1,4 @@
--- `store::take_line` meets its contract: the size is the format's.
+-- `store::take_line` meets its contract: the size of a row is the format's.
 use borrow.Author.Needs.{needs}
 use Rattle.laws.specs.Rows.{line-lawful}
 use Rattle.store.specs.StoreLaws.{row-removed}

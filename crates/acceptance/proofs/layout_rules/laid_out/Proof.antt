@@ -1,4 +1,4 @@
--- `acceptance::layout_rules::lies` meets its contract: one test after the other.
+-- `acceptance::layout_rules::laid_out` meets its contract: one test after the other.
 use borrow.Author.Needs.{needs}
 use borrow.Author.Tests.{le-leb, lt-leb, eq-eqb, ne-eqb}
 use Rattle.laws.specs.Tests.{and-no, and-yes, and-last}

@@ -1,4 +1,4 @@
--- `acceptance::questions::first_no` meets its contract: one question after the other, the second in its parts.
+-- `acceptance::questions::first_no` meets its contract: one question after the other, question 2 as three tests.
 use borrow.Author.Needs.{needs}
 use Rattle.laws.specs.Answers.{asked-no, asked-yes, asked-all}
 use Rattle.acceptance.specs.Seven.{by-tests}

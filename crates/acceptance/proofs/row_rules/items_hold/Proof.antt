@@ -9,7 +9,10 @@ use Rattle.acceptance.proofs.row_rules.items_hold.Statement.{statement}
 use Rattle.acceptance.proofs.row_rules.items_hold.Tie as tie
 
 abbrev Inv-loop : tie.InvT-loop
-Inv-loop image layout used n₀ n = Upto itemFormat (layout .items) image noItem (λ k. itemRules (tablesBy layout image .subjects) (tablesBy layout image .items) (suc k)) n
+Inv-loop image layout used n₀ n =
+    Upto itemFormat (layout .items) image noItem
+    (λ k. itemRules (tablesBy layout image .subjects) (tablesBy layout image .items) (suc k))
+    n
 
 abbrev μ-loop : tie.MeasureT-loop
 μ-loop image layout used n₀ n = used - n

@@ -1,4 +1,5 @@
--- `acceptance::row_rules::lines_hold` meets its contract: the rows passed all hold their rules and ascend, and the question is left of those after the last one.
+-- `acceptance::row_rules::lines_hold` meets its contract: the rows passed all hold their rules and ascend, so the question
+-- is left for the rows after them.
 use Prim.Native.Nat.{_-_}
 use native.Mathlib.Omega.{arith}
 use borrow.Author.Needs.{needs}
@@ -9,7 +10,10 @@ use Rattle.acceptance.proofs.row_rules.lines_hold.Statement.{statement}
 use Rattle.acceptance.proofs.row_rules.lines_hold.Tie as tie
 
 abbrev Inv-loop : tie.InvT-loop
-Inv-loop image layout used last₀ n₀ last n = Ascends (lineFormat (widthOf layout)) (layout .lines) image noLine (lineRules (tablesBy layout image .subjects) (tablesBy layout image .items)) lineKey n last
+Inv-loop image layout used last₀ n₀ last n =
+    Ascends (lineFormat (widthOf layout)) (layout .lines) image noLine
+    (lineRules (tablesBy layout image .subjects) (tablesBy layout image .items))
+    lineKey n last
 
 abbrev μ-loop : tie.MeasureT-loop
 μ-loop image layout used last₀ n₀ last n = used - n
@@ -37,7 +41,7 @@ returns-2 : tie.Need-returns-2 Inv-loop μ-loop
 unfolding linesHold tablesBy
 returns-2 c = search ascends-other
 
--- that the numbers of a layout fit lies too far back for `omega` to find
+-- `omega` does not find the fact that the numbers of a layout fit: it is too many steps back
 add-n : tie.Need-add-n Inv-loop μ-loop
 add-n c =
     let layout-fits = c .before .before .before .before .before .before .before .before .before .before .good .1 .0 in

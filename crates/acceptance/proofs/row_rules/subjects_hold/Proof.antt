@@ -1,4 +1,5 @@
--- `acceptance::row_rules::subjects_hold` meets its contract: the rows passed all hold their rules, and those that are not there are zeros.
+-- `acceptance::row_rules::subjects_hold` meets its contract: the rows passed all hold their rules, and those that are not
+-- entirely inside the image are zeros.
 use Prim.Native.Nat.{_-_}
 use native.Mathlib.Omega.{arith}
 use borrow.Author.Needs.{needs}
@@ -10,7 +11,9 @@ use Rattle.acceptance.proofs.row_rules.subjects_hold.Tie as tie
 
 abbrev Inv-loop : tie.InvT-loop
 Inv-loop image layout rows whole n₀ n =
-    Upto (subjectFormat (widthOf layout)) (layout .subjects) image noSubject (subjectRules (widthOf layout) (tablesBy layout image .subjects)) n
+    Upto (subjectFormat (widthOf layout)) (layout .subjects) image noSubject
+    (subjectRules (widthOf layout) (tablesBy layout image .subjects))
+    n
 
 abbrev μ-loop : tie.MeasureT-loop
 μ-loop image layout rows whole n₀ n = whole - n

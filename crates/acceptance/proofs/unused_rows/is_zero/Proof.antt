@@ -1,4 +1,4 @@
--- `acceptance::unused_rows::is_zero` meets its contract: the bits of the bytes passed were seen together.
+-- `acceptance::unused_rows::is_zero` meets its contract: `seen` is the union of the bits of the bytes passed.
 use Prim.Native.Nat.{_-_}
 use native.Mathlib.Omega.{arith}
 use borrow.Author.Needs.{needs}

@@ -1,4 +1,4 @@
--- `acceptance::unused_rows::zero_between` meets its contract: no bytes, or those up to the earlier of the two ends.
+-- `acceptance::unused_rows::zero_between` meets its contract: there are no bytes, or they end at the lower of the two ends.
 use mathlib.Core.Logic.{⊎-elim}
 use native.Mathlib.Omega.{arith}
 use borrow.Author.Needs.{needs}

@@ -1,4 +1,4 @@
--- `asking::editor::find_editor` meets its contract: one question after the other, and then the search.
+-- `asking::editor::find_editor` meets its contract: the questions in their order, and then the search.
 use borrow.Author.Needs.{needs}
 use Rattle.asking.specs.EditorAnswers.{editor-image, editor-no-list, editor-none, editor-found}
 use Rattle.asking.proofs.editor.find_editor.Statement.{statement}

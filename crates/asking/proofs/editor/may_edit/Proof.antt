@@ -1,4 +1,4 @@
--- `asking::editor::may_edit` meets its contract: its definition, call by call.
+-- `asking::editor::may_edit` meets its contract: its calls answer the terms of the definition, one by one.
 use borrow.Author.Needs.{needs}
 use Rattle.asking.proofs.editor.may_edit.Statement.{statement}
 use Rattle.asking.proofs.editor.may_edit.Tie as tie

@@ -1,4 +1,4 @@
--- `asking::editor::some_editor` meets its contract: the subjects passed are no editors.
+-- `asking::editor::some_editor` meets its contract: in each turn of the loop, no subject that was passed is an editor.
 use Prim.Native.Nat.{_-_}
 use native.Mathlib.Omega.{arith}
 use borrow.Author.Needs.{needs}

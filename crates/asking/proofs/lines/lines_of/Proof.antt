@@ -1,4 +1,5 @@
--- `asking::lines::lines_of` meets its contract: nothing of the image, or the bytes from the place of the first row to the place of the end.
+-- `asking::lines::lines_of` meets its contract: the slice is empty, or it starts at the offset of the first row and ends
+-- where the rows end.
 use mathlib.Core.Path.{refl}
 use borrow.Author.Needs.{needs}
 use Rattle.asking.specs.Shown.{refused-bytes, refused-at, no-bytes, no-at, some-inside, some-at, some-bytes}

@@ -1,4 +1,4 @@
--- `asking::lines::list_count` meets its contract: the number, and as many as there are rows shown.
+-- `asking::lines::list_count` meets its contract: the refusal, or how many rows are shown.
 use borrow.Author.Needs.{needs}
 use Rattle.asking.specs.Shown.{rows-ordered, count-refused, count-done}
 use Rattle.asking.proofs.lines.list_count.Statement.{statement}

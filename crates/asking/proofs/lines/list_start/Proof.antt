@@ -1,4 +1,4 @@
--- `asking::lines::list_start` meets its contract: the place of the first row where there are rows, and else 0.
+-- `asking::lines::list_start` meets its contract: the offset of the first row where there are rows, and 0 otherwise.
 use borrow.Author.Needs.{needs}
 use Rattle.asking.specs.Shown.{refused-start, no-start, starts-at}
 use Rattle.asking.proofs.lines.list_start.Statement.{statement}

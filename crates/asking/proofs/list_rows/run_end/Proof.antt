@@ -1,4 +1,4 @@
--- `asking::list_rows::run_end` meets its contract: the rows passed all name the list.
+-- `asking::list_rows::run_end` meets its contract: in each turn of the loop, all rows that were passed name the list.
 use Prim.Native.Nat.{_-_}
 use native.Mathlib.Omega.{arith}
 use borrow.Author.Needs.{needs}
@@ -30,7 +30,9 @@ loop-less : tie.Need-loop-less Inv-loop μ-loop
 loop-less c = omega arith
 
 loop-again : tie.Need-loop-again Inv-loop μ-loop
-loop-again c = let read = c .before .before .before in run-next _ _ _ _ _ _ (search needs) _ (search needs) (read .line-at .ensures) (c .if1 .left)
+loop-again c =
+    let read = c .before .before .before in
+    run-next _ _ _ _ _ _ (search needs) _ (search needs) (read .line-at .ensures) (c .if1 .left)
 
 returns-2 : tie.Need-returns-2 Inv-loop μ-loop
 unfolding tablesBy

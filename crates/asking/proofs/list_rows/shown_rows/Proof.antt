@@ -1,4 +1,5 @@
--- `asking::list_rows::shown_rows` meets its contract: refused by the image, by question 13, or the rows from the place of the lowest key on.
+-- `asking::list_rows::shown_rows` meets its contract: the image is refused, or question 13 is answered no, or the rows
+-- start at the insertion index of the list's lowest key.
 use borrow.Author.Needs.{needs}
 use Rattle.asking.specs.Shown.{shown-image, shown-no-list, shown-rows}
 use Rattle.asking.proofs.list_rows.shown_rows.Statement.{statement}

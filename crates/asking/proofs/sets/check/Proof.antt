@@ -1,4 +1,4 @@
--- `asking::sets::check` meets its contract: opened, there is nothing more to ask.
+-- `asking::sets::check` meets its contract: once the image is opened, there is no question left.
 use borrow.Author.Needs.{needs}
 use Rattle.laws.specs.Asks.{ask-image, check-done}
 use Rattle.asking.proofs.sets.check.Statement.{statement}

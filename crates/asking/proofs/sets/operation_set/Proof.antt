@@ -1,4 +1,4 @@
--- `asking::sets::operation_set` meets its contract: one question after the other, and then the set.
+-- `asking::sets::operation_set` meets its contract: the questions in their order, and then the set.
 use borrow.Author.Needs.{needs}
 use Rattle.laws.specs.Answers.{asked-no, asked-yes, asked-all}
 use Rattle.laws.specs.Asks.{ask-image, ask-no, ask-done}

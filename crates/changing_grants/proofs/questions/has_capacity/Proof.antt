@@ -1,4 +1,4 @@
--- `changing_grants::questions::has_capacity` meets its contract: one test, and then the other.
+-- `changing_grants::questions::has_capacity` meets its contract: the first test, and where it fails the second.
 use borrow.Author.Needs.{needs}
 use Rattle.laws.specs.Tests.{or-no, or-yes, was-no, was-yes}
 use Rattle.changing_grants.proofs.questions.has_capacity.Statement.{statement}

@@ -1,4 +1,4 @@
--- `changing_grants::questions::may_remove` meets its contract: one test, and then the other.
+-- `changing_grants::questions::may_remove` meets its contract: the first test, and where it fails the second.
 use borrow.Author.Needs.{needs}
 use Rattle.laws.specs.Tests.{or-no, or-yes, was-no, was-yes}
 use Rattle.changing_grants.proofs.questions.may_remove.Statement.{statement}

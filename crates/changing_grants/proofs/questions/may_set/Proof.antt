@@ -1,4 +1,4 @@
--- `changing_grants::questions::may_set` meets its contract: case by case.
+-- `changing_grants::questions::may_set` meets its contract: an existing row, or a new one.
 use borrow.Author.Needs.{needs}
 use Rattle.changing_grants.specs.Questions.{set-existing, set-new}
 use Rattle.changing_grants.proofs.questions.may_set.Statement.{statement}

@@ -1,4 +1,4 @@
--- `changing_grants::questions::remove_grant_removing` meets its contract: one question after the other, and then the row.
+-- `changing_grants::questions::remove_grant_removing` meets its contract: the questions in order, and then the row's index.
 use borrow.Author.Needs.{needs}
 use Rattle.model.specs.Questions.{questions}
 use Rattle.laws.specs.Answers.{tested-no, tested-yes, asked-no, asked-yes, asked-all}
@@ -48,7 +48,9 @@ returns-5 c = remove-also _ _ _ (search (remove-refused, asked-yes, tested-yes, 
 
 returns-6 : tie.Need-returns-6
 unfolding questions
-returns-6 c = remove-also _ _ _ (search (remove-at, asked-yes, tested-yes, a-role, asked-all, existing-is-there, existing-index, remove-found) depth 10)
+returns-6 c =
+    remove-also _ _ _
+    (search (remove-at, asked-yes, tested-yes, a-role, asked-all, existing-is-there, existing-index, remove-found) depth 10)
 
 pub remove-grant-removing-spec : {M : Type 1} → statement M
 remove-grant-removing-spec =

@@ -1,4 +1,4 @@
--- `changing_grants::questions::set_grant_storing` meets its contract: one question after the other, and then where the grant goes.
+-- `changing_grants::questions::set_grant_storing` meets its contract: the questions in order, and then the row index.
 use borrow.Author.Needs.{needs}
 use Rattle.model.specs.Image.{tablesBy}
 use Rattle.model.specs.Questions.{questions}

@@ -1,4 +1,4 @@
--- `changing_items::questions::named_refusal` meets its contract: one question after the other.
+-- `changing_items::questions::named_refusal` meets its contract: the questions are asked in the definition's order.
 use borrow.Author.Needs.{needs}
 use borrow.Author.Tests.{lt-ltb, le-ltb}
 use Rattle.model.specs.Questions.{questions}

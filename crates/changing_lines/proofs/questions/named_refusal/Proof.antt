@@ -1,4 +1,4 @@
--- `changing_lines::questions::named_refusal` meets its contract: one question after the other.
+-- `changing_lines::questions::named_refusal` meets its contract: the questions are asked in the definition's order.
 use borrow.Author.Needs.{needs}
 use Rattle.model.specs.Questions.{questions}
 use Rattle.laws.specs.Answers.{asked-no, asked-yes, asked-all}

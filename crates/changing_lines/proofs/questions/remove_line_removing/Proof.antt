@@ -1,4 +1,4 @@
--- `changing_lines::questions::remove_line_removing` meets its contract: one question after the other, and then the row.
+-- `changing_lines::questions::remove_line_removing` meets its contract: the questions in order, and then the row's index.
 use borrow.Author.Needs.{needs}
 use Rattle.model.specs.Questions.{questions}
 use Rattle.laws.specs.Answers.{tested-no, tested-yes, asked-all}

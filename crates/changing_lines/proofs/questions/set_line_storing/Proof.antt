@@ -1,4 +1,4 @@
--- `changing_lines::questions::set_line_storing` meets its contract: one question after the other, and then where the line goes.
+-- `changing_lines::questions::set_line_storing` meets its contract: the questions in order, and then the row index.
 use borrow.Author.Needs.{needs}
 use Rattle.model.specs.Image.{tablesBy}
 use Rattle.model.specs.Questions.{questions}

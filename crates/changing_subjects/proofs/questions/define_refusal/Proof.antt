@@ -1,4 +1,4 @@
--- `changing_subjects::questions::define_refusal` meets its contract: one question after the other.
+-- `changing_subjects::questions::define_refusal` meets its contract: the questions are asked in the definition's order.
 use borrow.Author.Needs.{needs}
 use Rattle.model.specs.Image.{tablesBy}
 use Rattle.model.specs.Questions.{questions}

@@ -1,4 +1,4 @@
--- `changing_subjects::questions::in_reach` meets its contract: the own tree, or case by case the tree of the grantor.
+-- `changing_subjects::questions::in_reach` meets its contract: the caller's own tree, or that of a grant's grantor.
 use borrow.Author.Needs.{needs}
 use Rattle.changing_subjects.specs.Questions.{reach-own, reach-lent, reach-none}
 use Rattle.changing_subjects.proofs.questions.in_reach.Statement.{statement}

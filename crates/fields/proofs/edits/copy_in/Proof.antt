@@ -1,4 +1,4 @@
--- `fields::edits::copy_in` meets its contract: after each turn one more byte of the row stands in its place.
+-- `fields::edits::copy_in` meets its contract: each turn of the loop copies one more byte of the row.
 use Prim.Native.Nat.{_-_}
 use native.Mathlib.Nat.{le-refl}
 use native.Mathlib.Omega.{arith}

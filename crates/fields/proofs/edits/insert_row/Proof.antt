@@ -1,4 +1,5 @@
--- `fields::edits::insert_row` meets its contract: what is shifted up and then copied in is the bytes with the row put in.
+-- `fields::edits::insert_row` meets its contract: shifting the bytes up and then copying the row in gives the
+-- bytes with the row inserted.
 use borrow.Author.Needs.{needs}
 use Rattle.fields.specs.Fitting.{unfit}
 use Rattle.fields.specs.Edits.{insertBytes}

@@ -1,4 +1,5 @@
--- `fields::edits::remove_row` meets its contract: what is shifted down and then cleared at the end is the bytes with the row taken out.
+-- `fields::edits::remove_row` meets its contract: shifting the bytes down and then clearing the end gives the bytes
+-- with the row removed.
 use borrow.Author.Needs.{needs}
 use Rattle.fields.specs.Fitting.{unfit}
 use Rattle.fields.specs.Edits.{removeBytes}

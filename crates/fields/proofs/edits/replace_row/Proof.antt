@@ -1,4 +1,5 @@
--- `fields::edits::replace_row` meets its contract: a row that does not fit changes nothing, and one that fits is copied in whole.
+-- `fields::edits::replace_row` meets its contract: a row that does not fit changes nothing, and one that fits is
+-- copied in whole.
 use borrow.Author.Needs.{needs}
 use Rattle.fields.specs.Fitting.{unfit}
 use Rattle.fields.specs.Edits.{putBytes}

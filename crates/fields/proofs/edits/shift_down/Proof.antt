@@ -1,4 +1,5 @@
--- `fields::edits::shift_down` meets its contract: a byte is read from further up than any that was written, so it is still the one that was there.
+-- `fields::edits::shift_down` meets its contract: each byte is read from further up than any byte written before,
+-- so it still has its old value.
 use Prim.Native.Nat.{_+_, _-_}
 use native.Mathlib.Omega.{arith}
 use borrow.Author.Needs.{needs}

@@ -1,4 +1,4 @@
--- `fields::edits::shift_up` meets its contract: the bytes from the counter on stand further up, those below are untouched.
+-- `fields::edits::shift_up` meets its contract: the bytes from offset `from` on have moved up, and those below are unchanged.
 use native.Mathlib.Omega.{arith}
 use borrow.Author.Needs.{needs}
 use Rattle.fields.specs.Copies.{Raised, raised-none, raised-one, raised-all}

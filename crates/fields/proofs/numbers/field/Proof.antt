@@ -1,4 +1,5 @@
--- `fields::numbers::field` meets its contract: past the end it answers 0, and else it joins the four bytes that the definition takes.
+-- `fields::numbers::field` meets its contract: it answers 0 for a field that runs past the end. Otherwise it
+-- joins the four bytes that the definition takes.
 use borrow.Author.Needs.{needs}
 use Rattle.model.specs.Image.{fieldAt}
 use Rattle.fields.specs.Fitting.{unfit}

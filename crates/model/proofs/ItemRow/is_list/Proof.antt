@@ -1,4 +1,5 @@
--- `ItemRow::is_list` meets its contract: the flags meet the mask of position 0 exactly where they have the position.
+-- `ItemRow::is_list` meets its contract: the flags and the mask of position 0 have a bit in common exactly when the
+-- flags have position 0.
 use mathlib.Core.Path.{refl}
 use borrow.Author.Needs.{needs}
 use Rattle.model.proofs.Positions.{meets}

@@ -1,4 +1,4 @@
--- `permission::decision::grant_of` meets its contract: a role other than 0 is looked for.
+-- `permission::decision::grant_of` meets its contract: for a role other than 0 the grant is searched for.
 use borrow.Author.Needs.{needs}
 use Rattle.permission.specs.Grants.{some-role}
 use Rattle.permission.proofs.decision.grant_of.Statement.{statement}

@@ -1,4 +1,5 @@
--- `permission::lines::group_index` meets its contract: one step up of the group search. The recursion is on the subject's number.
+-- `permission::lines::group_index` meets its contract: one step up of the group search. The recursion is on the subject's
+-- number.
 use Prim.Native.Nat.{ℕ, _<_}
 use native.Mathlib.Omega.{arith}
 use borrow.Author.Needs.{needs}
@@ -107,7 +108,9 @@ group-index-group-index-requires : (t : ℕ) → group-index-lts.Need-group-inde
   group-index-below t,
   group-index.Post,
 ) (group-index-at t) group-index.Post
-group-index-group-index-requires t c κs = let start = c .before .before .before .before .before .before .before .before .before in (omega (arith, start .pre .0), start .pre .1)
+group-index-group-index-requires t c κs =
+    let start = c .before .before .before .before .before .before .before .before .before in
+    (omega (arith, start .pre .0), start .pre .1)
 
 group-index-returns-2 : (t : ℕ) → group-index-lts.Need-returns-2 (
   climbing-layout-reads.Asked,

@@ -1,4 +1,4 @@
--- `permission::lines::line_of` meets its contract: a list other than 0 is looked for.
+-- `permission::lines::line_of` meets its contract: in a list other than 0 the line is searched for.
 use borrow.Author.Needs.{needs}
 use Rattle.permission.specs.Searches.{some-list}
 use Rattle.permission.proofs.lines.line_of.Statement.{statement}

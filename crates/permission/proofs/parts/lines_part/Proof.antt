@@ -1,4 +1,5 @@
--- `permission::parts::lines_part` meets its contract: the custodian, no list, or the line for everyone and the deciding line.
+-- `permission::parts::lines_part` meets its contract: the custodian, no list, or the line for everyone and the deciding
+-- line.
 use borrow.Author.Needs.{needs}
 use Rattle.permission.specs.Parts.{part-custodian, part-unlisted, part-other}
 use Rattle.permission.proofs.parts.lines_part.Statement.{statement}

@@ -19,10 +19,20 @@ rem-item : tie.Need-rem-item
 rem-item c = search some-item
 
 cast-item : tie.Need-cast-item
-cast-item c = record { fits = omega (arith, mod-lt (c .before .before .before .before .args .number) (some-item _ _ _ (c .before .before .before .before .pre .0))) }
+cast-item c =
+    record {
+      fits =
+          omega
+          (arith, mod-lt (c .before .before .before .before .args .number) (some-item _ _ _ (c .before .before .before .before .pre .0)));
+    }
 
 add-item : tie.Need-add-item
-add-item c = record { fits = omega (arith, mod-lt (c .before .before .before .before .args .number) (some-item _ _ _ (c .before .before .before .before .pre .0))) }
+add-item c =
+    record {
+      fits =
+          omega
+          (arith, mod-lt (c .before .before .before .before .args .number) (some-item _ _ _ (c .before .before .before .before .pre .0)));
+    }
 
 permissions-requires : tie.Need-permissions-requires
 permissions-requires c κs = search needs

@@ -1,4 +1,4 @@
--- `reporting::lines::put_set` meets its contract: its numbers are put in one in front of the other.
+-- `reporting::lines::put_set` meets its contract: the three numbers are put in, one in front of the other.
 use borrow.Author.Needs.{needs}
 use native.Mathlib.Omega.{arith}
 use Rattle.reporting.specs.Filling.{numbers-put}

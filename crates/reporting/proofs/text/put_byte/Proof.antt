@@ -1,4 +1,4 @@
--- `reporting::text::put_byte` meets its contract: one byte is stored, in front of the end.
+-- `reporting::text::put_byte` meets its contract: one byte is written, in front of the end.
 use borrow.Author.Needs.{needs}
 use Rattle.reporting.specs.Texts.{put-one}
 use Rattle.reporting.proofs.text.put_byte.Statement.{statement}

@@ -1,4 +1,4 @@
--- `reporting::text::put_bytes` meets its contract: after each turn the text is there from one byte earlier on.
+-- `reporting::text::put_bytes` meets its contract: each turn puts a byte of the text in front of those that are there.
 use Prim.Native.Nat.{_≤_}
 use native.Mathlib.Omega.{arith}
 use borrow.Author.Needs.{needs}

@@ -1,4 +1,5 @@
--- `reporting::text::put_decimal` meets its contract: the last digit, and then each turn the digit in front of those that are there.
+-- `reporting::text::put_decimal` meets its contract: first the last digit, and then each turn puts a digit in front of
+-- those that are there.
 use native.Mathlib.Omega.{arith}
 use borrow.Author.Needs.{needs}
 use Rattle.reporting.specs.Texts.{Spelt, spelt-none, spelt-fits, spelt-one, number-put, number-short}
@@ -31,7 +32,10 @@ loop-less c = omega arith
 
 loop-again : tie.Need-loop-again Inv-loop μ-loop
 loop-again c =
-    spelt-one _ _ _ _ _ _ _ _ _ (omega arith) (c .before .before .before .before .before .before .loop .inv) (c .before .before .before .last-digit2 .ensures) (c .before .before .put-byte2 .ensures)
+    spelt-one _ _ _ _ _ _ _ _ _ (omega arith)
+    (c .before .before .before .before .before .before .loop .inv)
+    (c .before .before .before .last-digit2 .ensures)
+    (c .before .before .put-byte2 .ensures)
 
 same-length : tie.Need-same-length Inv-loop μ-loop
 same-length c = omega arith

@@ -1,4 +1,4 @@
--- `reporting::text::put_number` meets its contract: the byte behind, and the digits in front of it.
+-- `reporting::text::put_number` meets its contract: first the byte behind the number, and then the digits in front of it.
 use borrow.Author.Needs.{needs}
 use native.Mathlib.Omega.{arith}
 use Rattle.reporting.specs.Texts.{put-more}

@@ -1,4 +1,4 @@
--- `rows::header::layout_of` meets its contract: nine fields of the header.
+-- `rows::header::layout_of` meets its contract: it reads nine fields of the header.
 use borrow.Author.Needs.{needs}
 use Rattle.model.specs.Image.{layoutOf}
 use Rattle.rows.proofs.header.layout_of.Statement.{statement}

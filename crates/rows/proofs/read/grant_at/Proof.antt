@@ -1,4 +1,4 @@
--- `rows::read::grant_at` meets its contract: the row of the bytes that were found for it.
+-- `rows::read::grant_at` meets its contract: it reads the row from the slice that was found for it.
 use borrow.Author.Needs.{needs}
 use Rattle.laws.specs.Rows.{grant-lawful}
 use Rattle.rows.specs.RowLaws.{row-read}

@@ -1,4 +1,4 @@
--- `rows::read::item_at` meets its contract: item n is row n - 1, the row of the bytes that were found for it.
+-- `rows::read::item_at` meets its contract: item n is the row with index n - 1, read from the slice that was found for it.
 use borrow.Author.Needs.{needs}
 use Rattle.laws.specs.Rows.{item-lawful}
 use Rattle.rows.specs.RowLaws.{row-read, item-none, item-some}

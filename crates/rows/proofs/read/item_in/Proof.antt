@@ -1,4 +1,4 @@
--- `rows::read::item_in` meets its contract: the fields stand one behind the other from the first byte on.
+-- `rows::read::item_in` meets its contract: the fields follow one another from the first byte on.
 use borrow.Author.Needs.{needs}
 use Rattle.rows.proofs.read.item_in.Statement.{statement}
 use Rattle.rows.proofs.read.item_in.Tie as tie

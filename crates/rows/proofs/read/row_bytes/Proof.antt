@@ -15,10 +15,16 @@ cast-at : tie.Need-cast-at
 cast-at c = search needs
 
 mul-at : tie.Need-mul-at
-mul-at c = record { fits = omega (arith, product-near (c .before .before .before .before .args .n) (c .before .before .before .before .args .size) (search needs)) }
+mul-at c = record {
+  fits = omega
+      (arith, product-near (c .before .before .before .before .args .n) (c .before .before .before .before .args .size) (search needs));
+}
 
 add-at : tie.Need-add-at
-add-at c = record { fits = omega (arith, product-near (c .before .before .before .before .args .n) (c .before .before .before .before .args .size) (search needs)) }
+add-at c = record {
+  fits = omega
+      (arith, product-near (c .before .before .before .before .args .n) (c .before .before .before .before .args .size) (search needs));
+}
 
 offset-count-requires : tie.Need-offset-count-requires
 offset-count-requires c κs = search needs

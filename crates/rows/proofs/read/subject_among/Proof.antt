@@ -1,4 +1,4 @@
--- `rows::read::subject_among` meets its contract: the row of its bytes, or of zeros.
+-- `rows::read::subject_among` meets its contract: it answers the row of its bytes, or the row of zeros.
 use native.Mathlib.Omega.{arith}
 use borrow.Author.Needs.{needs}
 use Rattle.laws.specs.Rows.{subject-lawful}
@@ -20,10 +20,12 @@ subject-size-requires : tie.Need-subject-size-requires
 subject-size-requires c κs = search needs
 
 mul-at : tie.Need-mul-at
-mul-at c = record { fits = omega (arith, product-near (c .before .before .before .before .args .n) (c .subject-size .result) (omega arith)) }
+mul-at c =
+    record { fits = omega (arith, product-near (c .before .before .before .before .args .n) (c .subject-size .result) (omega arith)) }
 
 add-end : tie.Need-add-end
-add-end c = record { fits = omega (arith, product-near (c .before .before .before .before .args .n) (c .subject-size .result) (omega arith)) }
+add-end c =
+    record { fits = omega (arith, product-near (c .before .before .before .before .args .n) (c .subject-size .result) (omega arith)) }
 
 sub-subject-in : tie.Need-sub-subject-in
 sub-subject-in c = search needs

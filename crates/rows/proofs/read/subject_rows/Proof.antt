@@ -1,4 +1,4 @@
--- `rows::read::subject_rows` meets its contract: none, what is left of the bytes, or all of the rows.
+-- `rows::read::subject_rows` meets its contract: one law for each return: no bytes, the bytes that are left, or all rows in use.
 use borrow.Author.Needs.{needs}
 use Rattle.rows.specs.Among.{rows-none, rows-rest, rows-all}
 use Rattle.rows.proofs.read.subject_rows.Statement.{statement}

@@ -1,4 +1,4 @@
--- `rows::read::whole_subjects` meets its contract: the size is the format's.
+-- `rows::read::whole_subjects` meets its contract: the size of a row is the format's.
 use borrow.Author.Needs.{needs}
 use Rattle.rows.specs.Among.{divided}
 use Rattle.rows.proofs.read.whole_subjects.Statement.{statement}

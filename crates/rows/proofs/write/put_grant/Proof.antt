@@ -1,5 +1,6 @@
--- `rows::write::put_grant` meets its contract: a row that does not fit changes nothing, and fields put one behind the other are the row's bytes.
--- In the last answer a name stands for the place at which that field has been written.
+-- `rows::write::put_grant` meets its contract: a row that does not fit changes nothing, and fields written one
+-- after the other are the row's bytes. In `returns-2` a name stands for the point in the run at which that field has been
+-- written.
 use native.Mathlib.Omega.{arith}
 use borrow.Author.Needs.{needs}
 use Rattle.model.specs.Image.{widthOf}
@@ -60,7 +61,11 @@ returns-2 c =
     let receiver = role .before .before .before .before in
     let start = receiver .before .before .before .before .before .before .before in
     row-put _ _ _ _ _ (grant-lawful (widthOf (start .args .layout))) (omega arith)
-    (then (receiver .put-field .ensures) (then (role .put-field2 .ensures) (then (grantor .put-field3 .ensures) (then (domain .put-field4 .ensures) (then (privileges .put-privileges .ensures) none)))))
+    (then (receiver .put-field .ensures)
+    (then (role .put-field2 .ensures)
+    (then (grantor .put-field3 .ensures)
+    (then (domain .put-field4 .ensures)
+    (then (privileges .put-privileges .ensures) none)))))
 
 pub put-grant-spec : {M : Type 1} → statement M
 put-grant-spec =

@@ -1,5 +1,6 @@
--- `rows::write::put_item` meets its contract: a row that does not fit changes nothing, and fields put one behind the other are the row's bytes.
--- In the last answer a name stands for the place at which that field has been written.
+-- `rows::write::put_item` meets its contract: a row that does not fit changes nothing, and fields written one
+-- after the other are the row's bytes. In `returns-2` a name stands for the point in the run at which that field has been
+-- written.
 use native.Mathlib.Omega.{arith}
 use borrow.Author.Needs.{needs}
 use Rattle.laws.specs.Rows.{item-lawful}

@@ -1,5 +1,6 @@
--- `rows::write::put_line` meets its contract: a row that does not fit changes nothing, and fields put one behind the other are the row's bytes.
--- In the last answer a name stands for the place at which that field has been written.
+-- `rows::write::put_line` meets its contract: a row that does not fit changes nothing, and fields written one
+-- after the other are the row's bytes. In `returns-2` a name stands for the point in the run at which that field has been
+-- written.
 use native.Mathlib.Omega.{arith}
 use borrow.Author.Needs.{needs}
 use Rattle.model.specs.Image.{widthOf}
@@ -53,7 +54,10 @@ returns-2 c =
     let list = kind .before .before .before .before in
     let start = list .before .before .before .before .before .before .before in
     row-put _ _ _ _ _ (line-lawful (widthOf (start .args .layout))) (omega arith)
-    (then (list .put-field .ensures) (then (kind .put-field2 .ensures) (then (subject .put-field3 .ensures) (then (privileges .put-privileges .ensures) none))))
+    (then (list .put-field .ensures)
+    (then (kind .put-field2 .ensures)
+    (then (subject .put-field3 .ensures)
+    (then (privileges .put-privileges .ensures) none))))
 
 pub put-line-spec : {M : Type 1} → statement M
 put-line-spec =

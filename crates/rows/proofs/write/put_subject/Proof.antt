@@ -1,5 +1,6 @@
--- `rows::write::put_subject` meets its contract: a row that does not fit changes nothing, and fields put one behind the other are the row's bytes.
--- In the last answer a name stands for the place at which that field has been written.
+-- `rows::write::put_subject` meets its contract: a row that does not fit changes nothing, and fields written one
+-- after the other are the row's bytes. In `returns-2` a name stands for the point in the run at which that field has been
+-- written.
 use native.Mathlib.Omega.{arith}
 use borrow.Author.Needs.{needs}
 use Rattle.model.specs.Image.{widthOf}
@@ -50,7 +51,9 @@ returns-2 c =
     let size = parent .before .before in
     let start = size .before .before .before .before .before .before in
     row-put _ _ _ _ _ (subject-lawful (widthOf (start .args .layout))) (omega arith)
-    (then (parent .put-field .ensures) (then (privileges .put-privileges .ensures) (then (rw (size .privileges-size .ensures .0) at (creator .put-field2 .ensures)) none)))
+    (then (parent .put-field .ensures)
+    (then (privileges .put-privileges .ensures)
+    (then (rw (size .privileges-size .ensures .0) at (creator .put-field2 .ensures)) none)))
 
 pub put-subject-spec : {M : Type 1} → statement M
 put-subject-spec =

@@ -1,4 +1,4 @@
--- `sample::workshop::write` ends and stays inside; what it writes is tested by what the program prints.
+-- `sample::workshop::write` ends and stays inside the image. What it writes is tested by what the program prints.
 use mathlib.Core.Path.{_≡_}
 use Prim.Native.Nat.{_-_, _≤_}
 use native.Mathlib.Omega.{arith}

@@ -1,4 +1,4 @@
--- `search::grants::grant_index` meets its contract: a search is a look at the key's sorted place.
+-- `search::grants::grant_index` meets its contract: a search looks at the row at the key's insertion index.
 use borrow.Author.Needs.{needs}
 use Rattle.search.specs.RowIndexLaws.{index-new, index-read}
 use Rattle.model.specs.Image.{tablesBy}

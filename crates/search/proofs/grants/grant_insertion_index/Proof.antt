@@ -1,4 +1,4 @@
--- `search::grants::grant_insertion_index` meets its contract: the rows passed all have a lower key.
+-- `search::grants::grant_insertion_index` meets its contract: all rows that the loop has passed have a lower key.
 use mathlib.Core.List.{[], _∷_}
 use Prim.Native.Nat.{_-_, _<_}
 use native.Mathlib.Omega.{arith}
@@ -9,7 +9,8 @@ use Rattle.search.proofs.grants.grant_insertion_index.Statement.{statem
 use Rattle.search.proofs.grants.grant_insertion_index.Tie as tie
 
 abbrev Inv-loop : tie.InvT-loop
-Inv-loop image layout receiver role used n₀ n = Counted (grantFormat (widthOf layout)) grantKey (layout .grants) image (receiver .0 ∷ role .0 ∷ []) noGrant n
+Inv-loop image layout receiver role used n₀ n =
+    Counted (grantFormat (widthOf layout)) grantKey (layout .grants) image (receiver .0 ∷ role .0 ∷ []) noGrant n
 
 abbrev μ-loop : tie.MeasureT-loop
 μ-loop image layout receiver role used n₀ n = used - n
@@ -27,7 +28,8 @@ returns : tie.Need-returns Inv-loop μ-loop
 unfolding tablesBy
 returns c = search counted-here
 
--- That the number of rows in use fits its field is named: it is one of many facts of a layout, and `omega` looks at no more than a bounded number.
+-- A name is given to the fact that the number of rows in use fits its field. It is one of many facts about a layout, and
+-- `omega` looks at no more than a bounded number of facts.
 add-n : tie.Need-add-n Inv-loop μ-loop
 add-n c =
     let entry = c .before .before .before .before .before .before .before in

@@ -1,4 +1,4 @@
--- `search::lines::find_line` meets its contract: a search is a look at the key's sorted place.
+-- `search::lines::find_line` meets its contract: a search looks at the row at the key's insertion index.
 use borrow.Author.Needs.{needs}
 use Rattle.model.specs.Image.{tablesBy}
 use Rattle.search.specs.Insertion.{found-past, found-other, found-row}

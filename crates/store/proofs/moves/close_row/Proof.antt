@@ -1,4 +1,4 @@
--- `store::moves::close_row` meets its contract: one law for each return; the part that is lent ends inside the image.
+-- `store::moves::close_row` meets its contract: one law for each return. The slice that is lent ends inside the image.
 use borrow.Author.Needs.{needs}
 use lib.Seq.{length-take-le}
 use Rattle.store.specs.MoveLaws.{none-taken, none-there, taken}

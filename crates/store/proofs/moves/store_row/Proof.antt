@@ -1,4 +1,4 @@
--- `store::moves::store_row` meets its contract: the row is the first of the bytes that are lent.
+-- `store::moves::store_row` meets its contract: the bytes that are lent begin with the row.
 use borrow.Author.Needs.{needs}
 use lib.Seq.{length-take-le}
 use Rattle.store.specs.MoveLaws.{first-short}

@@ -1,4 +1,4 @@
--- `store::moves::store_whole` meets its contract: one end for each kind of spot.
+-- `store::moves::store_whole` meets its contract: one law for each case of the row index.
 use borrow.Author.Needs.{needs}
 use Rattle.store.specs.MoveLaws.{stored-existing, stored-new}
 use Rattle.store.proofs.moves.store_whole.Statement.{statement}

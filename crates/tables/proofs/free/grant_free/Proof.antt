@@ -1,4 +1,4 @@
--- `tables::free::grant_free` meets its contract: the size that was told is the format's.
+-- `tables::free::grant_free` meets its contract: the size that it hands to `has_free` is the format's.
 use borrow.Author.Needs.{needs}
 use Rattle.tables.specs.Capacities.{free-sized}
 use Rattle.tables.proofs.free.grant_free.Statement.{statement}

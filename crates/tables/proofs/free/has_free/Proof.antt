@@ -1,4 +1,4 @@
--- `tables::free::has_free` meets its contract: a table that ends before it starts has room for no row.
+-- `tables::free::has_free` meets its contract: a table that ends before it starts has the capacity 0.
 use borrow.Author.Needs.{needs}
 use Rattle.tables.specs.Capacities.{no-capacity}
 use Rattle.tables.proofs.free.has_free.Statement.{statement}

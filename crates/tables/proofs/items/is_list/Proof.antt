@@ -1,4 +1,4 @@
--- `tables::items::is_list` meets its contract: in use, and then the flag.
+-- `tables::items::is_list` meets its contract: the item has to be in use, and then its flag decides.
 use borrow.Author.Needs.{needs}
 use Rattle.model.specs.Image.{tablesBy}
 use Rattle.laws.specs.Tests.{and-no, said-no}

@@ -1,4 +1,4 @@
--- `tables::items::item_used` meets its contract: item n is row n - 1, and a table has as many rows as are in use.
+-- `tables::items::item_used` meets its contract: item n is the row with index n - 1, and a table has as many rows as are in use.
 use borrow.Author.Needs.{needs}
 use Rattle.model.specs.Image.{tablesBy}
 use Rattle.tables.specs.Rows.{item-is-used}

@@ -1,4 +1,4 @@
--- `tables::items::none_or_list` meets its contract: 0, or else a list.
+-- `tables::items::none_or_list` meets its contract: the item is 0, or else it has to be a list.
 use borrow.Author.Needs.{needs}
 use borrow.Author.Tests.{eq-eqb, ne-eqb}
 use Rattle.laws.specs.Tests.{or-yes, or-no}

@@ -1,4 +1,5 @@
--- `tables::subjects::in_tree` meets its contract: each step up leaves the question as it was, and below the root the answer is no.
+-- `tables::subjects::in_tree` meets its contract: each step up keeps the answer to the question, and below the root the
+-- answer is no.
 use native.Mathlib.Omega.{arith}
 use borrow.Author.Needs.{needs}
 use Rattle.model.specs.Image.{tablesBy, parentIn}

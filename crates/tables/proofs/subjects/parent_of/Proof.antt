@@ -1,4 +1,4 @@
--- `tables::subjects::parent_of` meets its contract: a field of the row.
+-- `tables::subjects::parent_of` meets its contract: it answers a field of the row.
 use borrow.Author.Needs.{needs}
 use Rattle.model.specs.Image.{tablesBy}
 use Rattle.tables.proofs.subjects.parent_of.Statement.{statement}
