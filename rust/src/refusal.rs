@@ -121,7 +121,7 @@ impl Refusal {
             Refusal::List => "the list named is no access list in use",
             Refusal::Range => "the role, kind, subject or flags are out of range",
             Refusal::Right => "the caller may not do this",
-            Refusal::Tree => "the parent or domain is outside the tree it must lie in",
+            Refusal::Tree => "the parent or domain is outside the tree that it must be in",
             Refusal::NoRow => "the row to remove is not there",
             Refusal::NotYours => "the grant is another grantor's",
             Refusal::Full => "no row is free",

@@ -13,8 +13,9 @@ use crate::unused_rows::unused_is_zero;
 use model::Layout;
 use model::refusal;
 
-// The number of the first question that is answered no, or 0. Question 2 is asked as three tests. It bounds the work of
-// the questions after it by the image's length, whatever the header claims.
+// The number of the first question that is answered no, or 0. Question 2 is asked as three tests, a form that was
+// measured (docs/DECISIONS.md, D9). It bounds the work of the questions after it by the image's length, whatever the header
+// claims.
 pub fn first_no(image: &[u8], layout: Layout) -> u32
     ensures { λ r. ⌜ r ≡ firstNo (questionsBy layout (now (image .entry))) ⌝ }
 {

@@ -23,6 +23,8 @@ pub enum ListRows {
     Refused(u32),
 }
 
+// The three calls about the lines of a list share this function. Lines ascend by their list first, so the rows of one list
+// stand together.
 pub fn shown_rows(image: &[u8], list: Item) -> ListRows
     ensures { λ r. ⌜ ShownBy (now (image .entry)) (list .0) r ⌝ }
 {

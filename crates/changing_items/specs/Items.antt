@@ -27,7 +27,10 @@ use Rattle.store.specs.Stored.{items-stored}
 use Rattle.store.specs.Calls.{row-more, item-replaced}
 
 -- an item's row is replaced by one that is made of the row that was read
-pub row-replaced : (table : Table) (i : ℕ) (s new : List ℕ) (x y : ItemRow) → x ≡ y → new ≡ overItem table i x s → new ≡ overItem table i y s
+pub row-replaced : (table : Table) (i : ℕ) (s new : List ℕ) (x y : ItemRow)
+    → x ≡ y
+    → new ≡ overItem table i x s
+    → new ≡ overItem table i y s
 row-replaced table i s new x y made-of e = e ∙ rw made-of
 
 module _ (x old : ItemRow) (read : x ≡ old) (y : ItemRow) where

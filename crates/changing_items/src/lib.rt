@@ -83,6 +83,7 @@ pub fn hand_over(image: &mut [u8], caller: Subject, item: Item, owner: Subject) 
     Answer::done(0)
 }
 
+// Writes the item's row as it was read, but for the list.
 fn put_list(image: &mut [u8], layout: Layout, item: Item, list: Item)
     ensures { λ _. let t = tablesBy layout (now (image .entry)) in
         ⌜ now (image .exit)
@@ -92,6 +93,7 @@ fn put_list(image: &mut [u8], layout: Layout, item: Item, list: Item)
     replace_item(image, layout, item, row.with_list(list));
 }
 
+// Writes the item's row as it was read, but for the owner.
 fn put_owner(image: &mut [u8], layout: Layout, item: Item, owner: Subject)
     ensures { λ _. let t = tablesBy layout (now (image .entry)) in
         ⌜ now (image .exit)

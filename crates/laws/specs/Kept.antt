@@ -187,10 +187,12 @@ module _ (t : Tables) (w : WellFormed t) where
       → T (isThere (find grantKey (grantKey g) (t .grants)) || ltb (length (t .grants)) (t .capacities .grants))
       → WellFormed (withGrants t (put grantKey g (t .grants)))
   grant-put g good free =
-      grants-replaced (put grantKey g (t .grants)) (rows-put grantKey (GoodGrant t) (t .capacities .grants) (t .grants) grant-rows g good free)
+      grants-replaced (put grantKey g (t .grants))
+      (rows-put grantKey (GoodGrant t) (t .capacities .grants) (t .grants) grant-rows g good free)
 
   grant-cut : (k : List ℕ) → WellFormed (withGrants t (cut grantKey k (t .grants)))
-  grant-cut k = grants-replaced (cut grantKey k (t .grants)) (rows-cut grantKey (GoodGrant t) (t .capacities .grants) (t .grants) grant-rows k)
+  grant-cut k = grants-replaced (cut grantKey k (t .grants))
+      (rows-cut grantKey (GoodGrant t) (t .capacities .grants) (t .grants) grant-rows k)
 
   lines-replaced : (rows : List LineRow) → SortedRows lineKey (GoodLine t) (t .capacities .lines) rows → WellFormed (withLines t rows)
   unfolding blockOf subjectsHold itemsHold grantsHold

@@ -58,7 +58,8 @@ module _ {A : Type 0} (f : Format A) where
   abbrev pub size : ℕ
   size = sum (f .widths)
 
-  -- the row that s begins with; if s is shorter than a row, the row of zeros
+  -- the row that s begins with; if s is shorter than a row, the row of zeros. So a row is read with one test for all its
+  -- fields. No call shows the difference: question 2 refuses an image whose tables run past its end.
   abbrev pub firstRow : List ℕ → A
   firstRow s = f .row (cond (leb size (length s)) (fieldsAt (f .widths) s 0) (replicate (length (f .widths)) 0))
 
@@ -225,7 +226,8 @@ tablesBy lay img =
 abbrev pub tables : List ℕ → Tables
 tables img = tablesBy (layoutOf img) img
 
--- Tables to bytes. A table's block is its rows in use, then zeros up to its capacity. `extent` is how many bytes it has.
+-- Tables to bytes. A table's block is its rows in use, then zeros up to its capacity. `extent` is how many bytes it has. The
+-- header's numbers are computed from the blocks, so that one law about a block serves every table.
 
 pub record Block : Type 0 where
   pub used : ℕ

@@ -1,7 +1,8 @@
 -- The definitions of the library. The first three files are general: several sections of document 01 use them. Then there is
 -- one file for each section, in the document's order. One section is not here: the sequences of demand 3 are defined beside
 -- their theorem, in the crate `strangers`. A call's contract cites these definitions and nothing else.
--- The laws about them are in the crate `laws`. Only the twelve sets of the sample workshop are proved here.
+-- The laws about them are in the crate `laws`. Only the twelve sets of the sample workshop are proved here; `Computing` names
+-- what that proof unfolds.
 pub mod Lists
 pub mod Sorted
 pub mod Tree

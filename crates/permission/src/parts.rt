@@ -29,7 +29,8 @@ pub fn line_set(found: SoughtLine) -> Privileges
 }
 
 // The lines' part of a subject on an item, whose row is handed in. No list means no lines, so there is no group to look
-// for.
+// for. The line for everyone is looked up first. What the two lines give is joined, so the order decides nothing but
+// speed, and this one was measured to be faster (docs/DECISIONS.md, D9).
 pub fn lines_part(image: &[u8], layout: Layout, subject: Subject, item: ItemRow) -> Privileges
     ensures { λ r. ⌜ r ≡ partOn (tablesBy layout (now (image .entry))) (subject .0) item ⌝ }
 {

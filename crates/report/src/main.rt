@@ -14,6 +14,7 @@ use reporting::lines_page;
 // One byte more than the longest image, so that a longer input is seen to be too long.
 const INPUT: usize = 65537;
 
+// An input that cannot be read any further counts as ended: `read_full` answers the same for both.
 fn main() {
     let mut input = [0u8; INPUT];
     let length = io::read_full(0, &mut input);

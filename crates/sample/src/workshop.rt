@@ -1,4 +1,5 @@
-// The sample workshop of document 01 as an image, field by field.
+// The sample workshop of document 01 as an image, field by field. The library's own row writers do not make it, so what is
+// printed tests the whole way from bytes to sets.
 use fields::numbers::put_field;
 
 const LENGTH: usize = 316;

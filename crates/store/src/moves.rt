@@ -13,7 +13,8 @@ use model::Table;
 use search::RowIndex;
 use std::num::wrapping_add_u32;
 
-// Stores a row of `size` bytes at a row index. The bytes that are lent begin with the row, and may be more.
+// Stores a row of `size` bytes at a row index. The bytes that are lent begin with the row, and may be more: an array for
+// rows of two lengths is as long as the longer.
 pub fn store_row(
     image: &mut [u8],
     counter: usize,
@@ -72,7 +73,8 @@ fn offset_of(table: Table, size: usize, n: u32) -> usize
 }
 
 // Inserts a row at an offset. The rows in use from there to their end move up into the free row behind them, and no byte
-// further on changes.
+// further on changes. The count wraps at 2^32, because every table is answered. In a call it does not: question 19 has found
+// a free row before.
 fn add_row(image: &mut [u8], counter: usize, used: u32, at: usize, end: usize, row: &[u8])
     ensures { λ _. ⌜ now (image .exit) ≡ rowAdded (now (image .entry)) counter used at end (now (row .entry)) ⌝ }
 {

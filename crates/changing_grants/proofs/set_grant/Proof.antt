@@ -1,4 +1,6 @@
 -- `changing_grants::set_grant` meets its contract: first the answer at each return, and from the answer the image.
+-- The last return names three facts by their path, because they stand behind more records than `search` enters: what
+-- `open` and the questions answered, and that the image is bytes.
 use borrow.Author.Needs.{needs}
 use Rattle.model.specs.Calls.{changeResult}
 use Rattle.laws.specs.Opens.{refused-not}
