@@ -10,7 +10,9 @@ mod questions;
 mod row_rules;
 mod unused_rows;
 
-// Every call begins here: the layout of an accepted image, or the number of the first question that is answered no.
+// Every call begins here: the layout of an accepted image, or the number of the first question that is answered no. The
+// answer is an enum, so that no call can go on with the layout of an image that was refused. `first_no` answers a number
+// and is a function of its own, because an enum answered at each question was slower (docs/DECISIONS.md, D9).
 pub fn open(image: &[u8]) -> Opened
     ensures { λ r. ⌜ r ≡ opened (now (image .entry)) ⌝ }
     ensures { λ r. ⌜ refusalOf r ≡ check (now (image .entry)) ⌝ }

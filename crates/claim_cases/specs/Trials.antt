@@ -22,6 +22,7 @@ use Rattle.claim_cases.specs.Tried.{Trial, proper, coveredBut, changed, 
 -- owns list 1, but the owner line in list 1 gives nothing; the one in list 2 would let an owner edit. Subject 3 holds a
 -- role that 1 granted. Subject 4 is below 1, as 2 is; its own line denies it what the line for the group of 1 gives. These
 -- four have the privileges 0 to 6. The lines also let subject 5 edit list 1, but it has no privileges of its own.
+-- Five trials start from the sample workshop. The others need rights that only insiders have there.
 unfoldable rivals : Tables
 rivals =
     record {

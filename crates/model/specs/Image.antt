@@ -392,7 +392,8 @@ module _ {A : Type 0} (f : Format A) where
   abbrev pub unused : Table → List ℕ → List ℕ
   unused t img = take (t .end - (t .start + t .used * size f)) (drop (t .start + t .used * size f) img)
 
--- the rules of the header: the length that it records is the image's, and the first table starts right behind it
+-- the rules of the header: the length that it records is the image's, and the first table starts right behind it. They stand
+-- apart from those of the tables, which look at the layout alone.
 unfoldable pub headerRules : Layout → List ℕ → List Bool
 headerRules lay img = eqb (lay .items .end) (length img) ∷ eqb (lay .subjects .start) headerSize ∷ []
 

@@ -17,7 +17,7 @@ pub struct Item(pub u32);
 #[repr(C)]
 pub struct Role(pub u32);
 
-// A set of privileges: bit n is position n.
+// A set of privileges: bit n is position n. One alias, so that its width stands once.
 pub type Privileges = u32;
 
 pub const CUSTODIAN: u32 = 0;

@@ -44,8 +44,9 @@ pub fn line_count(image: &[u8], layout: Layout) -> u64
     subjects.used as u64 * items.used as u64
 }
 
-// Writes the lines from number `first` on, as many as a page has. Answers the offset in the page at which they start, which
-// is the end of the page where no line is left.
+// Writes the lines from number `first` on, as many as a page has. Lines are numbered through all subjects, so a page may
+// begin within a subject's lines, and few items do not make small pages. Answers the offset in the page at which the lines
+// start, which is the end of the page where no line is left.
 pub fn lines_page(image: &[u8], layout: Layout, first: u64, page: &mut [u8; PAGE]) -> usize
     ensures { λ r. ⌜ r ≡ pageSize - length (Pages·page (tablesBy layout (now (image .entry))) first) ⌝ }
     ensures { λ _. ⌜ now (page .exit) ≡ endingIn (now (page .entry)) (Pages·page (tablesBy layout (now (image .entry))) first) ⌝ }

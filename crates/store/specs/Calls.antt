@@ -1,5 +1,6 @@
 -- A call that changes one table: what its questions decide, and that storing, removing or replacing the row leaves the
--- image that the call's definition gives. There is one law for each kind of change, for any format and key of the table.
+-- image that the call's definition gives. There is one law for each kind of change: three for any format, of which two
+-- are for any key, and one for items.
 use mathlib.Core.Bool.{false, _||_, false≢true}
 use mathlib.Core.List.{List, [], _∷_, _++_}
 use mathlib.Core.Path.{_≡_, refl, sym, ap, _∙_}

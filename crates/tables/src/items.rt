@@ -5,6 +5,7 @@ use model::Item;
 use model::Layout;
 use rows::read::item_at;
 
+// Only the layout is read. The image is handed over so that the contract can name the table that is answered by.
 pub fn item_used(image: &[u8], layout: Layout, item: Item) -> bool
     ensures { λ r. ⌜ r ≡ itemUsed (tablesBy layout (now (image .entry)) .items) (item .0) ⌝ }
 {

@@ -9,6 +9,7 @@ use rows::read::subject_among;
 use rows::read::subject_at;
 use rows::read::subject_rows;
 
+// Only the layout is read. The image is handed over so that the contract can name the table that is answered by.
 pub fn subject_used(image: &[u8], layout: Layout, subject: Subject) -> bool
     ensures { λ r. ⌜ r ≡ subjectUsed (tablesBy layout (now (image .entry)) .subjects) (subject .0) ⌝ }
 {
@@ -30,8 +31,8 @@ pub fn privileges_of(image: &[u8], layout: Layout, subject: Subject) -> Privileg
     row.privileges
 }
 
-// The subject is in the tree of a root. A tree has no number lower than its root's, so the climb
-// ends as soon as it is not above the root.
+// The subject is in the tree of a root. A tree has no number lower than its root's, so the climb ends as soon as it is not
+// above the root. It is a loop: document 01 names recursion for the group search only.
 pub fn in_tree(image: &[u8], layout: Layout, root: Subject, subject: Subject) -> bool
     ensures { λ r. ⌜ r ≡ inTree (parentIn (tablesBy layout (now (image .entry)) .subjects)) (root .0) (subject .0) ⌝ }
 {
