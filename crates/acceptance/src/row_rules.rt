@@ -1,9 +1,10 @@
 // Questions 3 to 6: the rules of the rows, table by table. Each pass ends at the first row that breaks a rule. A climb
 // from a subject to its parents comes after the test that the subject is in use. So the table bounds the climb's length.
 ghost use mathlib.Core.Path.{_≡_};
-ghost use Rattle.model.specs.Image.{tablesBy, widthOf, itemIn, subjectsHold, itemsHold, linesHold, grantsHold};
+ghost use Rattle.model.specs.Image.{widthOf, itemIn, subjectsHold, itemsHold, linesHold, grantsHold};
 ghost use Rattle.model.specs.Image.{custodianRules, itemRules, lineRules, grantRules};
 ghost use Rattle.acceptance.specs.SubjectRows.{rulesAmong};
+ghost use Rattle.model.specs.Lent.{tablesAt};
 use model::GrantRow;
 use model::Item;
 use model::ItemRow;
@@ -31,7 +32,7 @@ use tables::subjects::subject_used;
 // The pass goes through the rows that are entirely inside the image. Every other row counts as a row of zeros, which holds
 // the rules of every subject but the custodian.
 pub fn subjects_hold(image: &[u8], layout: Layout) -> bool
-    ensures { λ r. ⌜ r ≡ subjectsHold (tablesBy layout (now (image .entry))) ⌝ }
+    ensures { λ r. ⌜ r ≡ subjectsHold (tablesAt layout (image .entry)) ⌝ }
 {
     let rows = subject_rows(image, layout);
     let whole = whole_subjects(rows, layout);
@@ -81,7 +82,7 @@ fn custodian_fits(layout: Layout, row: SubjectRow) -> bool
 }
 
 pub fn items_hold(image: &[u8], layout: Layout) -> bool
-    ensures { λ r. ⌜ r ≡ itemsHold (tablesBy layout (now (image .entry))) ⌝ }
+    ensures { λ r. ⌜ r ≡ itemsHold (tablesAt layout (image .entry)) ⌝ }
 {
     let table = layout.items;
     let used = table.used;
@@ -96,7 +97,7 @@ pub fn items_hold(image: &[u8], layout: Layout) -> bool
 }
 
 fn item_fits(image: &[u8], layout: Layout, item: Item) -> bool
-    ensures { λ r. let t = tablesBy layout (now (image .entry)) in
+    ensures { λ r. let t = tablesAt layout (image .entry) in
         ⌜ r ≡ itemRules (t .subjects) (t .items) (item .0) (itemIn (t .items) (item .0)) ⌝ }
 {
     let row = item_at(image, layout, item);
@@ -112,7 +113,7 @@ fn item_fits(image: &[u8], layout: Layout, item: Item) -> bool
 // Lines hold their rules and ascend. A row that holds its rules names a list, so its key comes after that of a row of
 // zeros. So the first row needs no case of its own.
 pub fn lines_hold(image: &[u8], layout: Layout) -> bool
-    ensures { λ r. ⌜ r ≡ linesHold (tablesBy layout (now (image .entry))) ⌝ }
+    ensures { λ r. ⌜ r ≡ linesHold (tablesAt layout (image .entry)) ⌝ }
 {
     let table = layout.lines;
     let used = table.used;
@@ -133,7 +134,7 @@ pub fn lines_hold(image: &[u8], layout: Layout) -> bool
 }
 
 fn line_fits(image: &[u8], layout: Layout, row: LineRow) -> bool
-    ensures { λ r. let t = tablesBy layout (now (image .entry)) in
+    ensures { λ r. let t = tablesAt layout (image .entry) in
         ⌜ r ≡ lineRules (t .subjects) (t .items) row ⌝ }
 {
     if !is_list(image, layout, row.list) {
@@ -147,7 +148,7 @@ fn line_fits(image: &[u8], layout: Layout, row: LineRow) -> bool
 
 // Grants hold their rules and ascend. A row that holds its rules has a role, so its key comes after that of a row of zeros.
 pub fn grants_hold(image: &[u8], layout: Layout) -> bool
-    ensures { λ r. ⌜ r ≡ grantsHold (tablesBy layout (now (image .entry))) ⌝ }
+    ensures { λ r. ⌜ r ≡ grantsHold (tablesAt layout (image .entry)) ⌝ }
 {
     let table = layout.grants;
     let used = table.used;
@@ -168,7 +169,7 @@ pub fn grants_hold(image: &[u8], layout: Layout) -> bool
 }
 
 fn grant_fits(image: &[u8], layout: Layout, row: GrantRow) -> bool
-    ensures { λ r. ⌜ r ≡ grantRules (tablesBy layout (now (image .entry)) .subjects) row ⌝ }
+    ensures { λ r. ⌜ r ≡ grantRules (tablesAt layout (image .entry) .subjects) row ⌝ }
 {
     if !subject_used(image, layout, row.receiver) {
         return false;

@@ -1,10 +1,10 @@
 // The call that finds a subject that may edit a list.
 ghost use mathlib.Core.Path.{_≡_};
 ghost use Rattle.model.specs.WhoAndWhat.{editList, has};
-ghost use Rattle.model.specs.Image.{tablesBy};
 ghost use Rattle.model.specs.Permission.{permissionSet};
 ghost use Rattle.model.specs.Questions.{EditorAnswer};
 ghost use Rattle.asking.specs.Found.{Editor};
+ghost use Rattle.model.specs.Lent.{tablesAt};
 use acceptance::open;
 use model::Answer;
 use model::Item;
@@ -44,7 +44,7 @@ pub fn find_editor(image: &[u8], list: Item) -> Answer
 // The number of a subject, other than the custodian, that may edit the list; or 0, the custodian's number, where there is
 // none. The loop goes up from 1 and stops at the first, but the contract promises no order: which of several is undecided.
 fn some_editor(image: &[u8], layout: Layout, list: Item) -> u32
-    ensures { λ r. ⌜ Editor (tablesBy layout (now (image .entry))) (list .0) r ⌝ }
+    ensures { λ r. ⌜ Editor (tablesAt layout (image .entry)) (list .0) r ⌝ }
 {
     let table = layout.subjects;
     let used = table.used;
@@ -60,7 +60,7 @@ fn some_editor(image: &[u8], layout: Layout, list: Item) -> u32
 
 // Whether a subject may edit a list without claiming a role.
 fn may_edit(image: &[u8], layout: Layout, subject: Subject, list: Item) -> bool
-    ensures { λ r. ⌜ r ≡ has editList (permissionSet (tablesBy layout (now (image .entry))) (subject .0) 0 (list .0)) ⌝ }
+    ensures { λ r. ⌜ r ≡ has editList (permissionSet (tablesAt layout (image .entry)) (subject .0) 0 (list .0)) ⌝ }
 {
     let set = permissions_under(image, layout, subject, SoughtGrant::NoGrant, list);
     has(needed_position(SET_LINE), set)

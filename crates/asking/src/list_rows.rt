@@ -3,8 +3,9 @@ ghost use mathlib.Core.Path.{_≡_};
 ghost use Prim.Native.Nat.{_+_};
 ghost use lib.ListN.{drop};
 ghost use Rattle.model.specs.Sorted.{insertionIndex};
-ghost use Rattle.model.specs.Image.{tablesBy, lineKey};
+ghost use Rattle.model.specs.Image.{lineKey};
 ghost use Rattle.asking.specs.Found.{lowest, leading, ShownBy};
+ghost use Rattle.model.specs.Lent.{tablesAt};
 use acceptance::open;
 use model::Item;
 use model::Layout;
@@ -45,14 +46,14 @@ pub fn shown_rows(image: &[u8], list: Item) -> ListRows
 
 // The index at which the list's rows start: the insertion index of the list's lowest key.
 fn run_start(image: &[u8], layout: Layout, list: Item) -> u32
-    ensures { λ r. ⌜ r ≡ insertionIndex lineKey (lowest (list .0)) (tablesBy layout (now (image .entry)) .lines) ⌝ }
+    ensures { λ r. ⌜ r ≡ insertionIndex lineKey (lowest (list .0)) (tablesAt layout (image .entry) .lines) ⌝ }
 {
     line_insertion_index(image, layout, list, LineRow::ITSELF, Subject(0))
 }
 
 // The index before which the list's rows end. From index `first` on, rows are passed as long as they name the list.
 fn run_end(image: &[u8], layout: Layout, list: Item, first: u32) -> u32
-    ensures { λ r. ⌜ r ≡ first + leading (list .0) (drop first (tablesBy layout (now (image .entry)) .lines)) ⌝ }
+    ensures { λ r. ⌜ r ≡ first + leading (list .0) (drop first (tablesAt layout (image .entry) .lines)) ⌝ }
 {
     let table = layout.lines;
     let used = table.used;

@@ -7,12 +7,13 @@ ghost use lib.Dec.{eqb, ltb};
 ghost use lib.ListN.{take};
 ghost use Rattle.model.specs.Sorted.{insertionIndex};
 ghost use Rattle.model.specs.WhoAndWhat.{custodian};
-ghost use Rattle.model.specs.Image.{tablesBy, capacitiesBy, grantKey};
+ghost use Rattle.model.specs.Image.{capacitiesBy, grantKey};
 ghost use Rattle.model.specs.Calls.Change.{setGrant, removeGrant};
 ghost use Rattle.model.specs.Questions.{questions, firstNo};
 ghost use Rattle.search.specs.RowIndices.{isExisting, rowIndex};
 ghost use Rattle.store.specs.Stores.{storing, removing, storingNumber, removingNumber};
 ghost use Rattle.changing_grants.specs.GivenAt.{givenAt, maySet};
+ghost use Rattle.model.specs.Lent.{tablesAt};
 use model::CUSTODIAN;
 use model::Layout;
 use model::Privileges;
@@ -38,10 +39,10 @@ pub fn set_grant_storing(
     domain: Subject,
     privileges: Privileges,
 ) -> Storing
-    ensures { λ r. let t = tablesBy layout (now (image .entry)) in
+    ensures { λ r. let t = tablesAt layout (image .entry) in
         ⌜ r ≡ storing (firstNo (questions t (setGrant (caller .0) (receiver .0) (role .0) (domain .0) privileges)))
         (rowIndex grantKey (receiver .0 ∷ role .0 ∷ []) (t .grants)) ⌝ }
-    ensures { λ r. let t = tablesBy layout (now (image .entry)) in
+    ensures { λ r. let t = tablesAt layout (image .entry) in
         ⌜ storingNumber r ≡ firstNo (questions t (setGrant (caller .0) (receiver .0) (role .0) (domain .0) privileges)) ⌝ }
 {
     let number = named_refusal(image, layout, caller, receiver, role, domain, privileges);
@@ -71,7 +72,7 @@ fn named_refusal(
     domain: Subject,
     privileges: Privileges,
 ) -> u32
-    ensures { λ r. let t = tablesBy layout (now (image .entry)) in
+    ensures { λ r. let t = tablesAt layout (image .entry) in
         ⌜ r ≡ firstNo (take 4 (questions t (setGrant (caller .0) (receiver .0) (role .0) (domain .0) privileges))) ⌝ }
 {
     if !subject_used(image, layout, caller) {
@@ -97,10 +98,10 @@ pub fn remove_grant_removing(
     receiver: Subject,
     role: Role,
 ) -> Removing
-    ensures { λ r. let t = tablesBy layout (now (image .entry)) in
+    ensures { λ r. let t = tablesAt layout (image .entry) in
         ⌜ r ≡ removing (firstNo (questions t (removeGrant (caller .0) (receiver .0) (role .0))))
         (insertionIndex grantKey (receiver .0 ∷ role .0 ∷ []) (t .grants)) ⌝ }
-    ensures { λ r. let t = tablesBy layout (now (image .entry)) in
+    ensures { λ r. let t = tablesAt layout (image .entry) in
         ⌜ removingNumber r ≡ firstNo (questions t (removeGrant (caller .0) (receiver .0) (role .0))) ⌝ }
 {
     if !subject_used(image, layout, caller) {
@@ -124,7 +125,7 @@ pub fn remove_grant_removing(
 
 // Only its grantor may overwrite an existing row. A new row needs no such right.
 fn may_set(image: &[u8], layout: Layout, index: RowIndex, caller: Subject) -> bool
-    ensures { λ r. ⌜ r ≡ maySet (tablesBy layout (now (image .entry)) .grants) (caller .0) index ⌝ }
+    ensures { λ r. ⌜ r ≡ maySet (tablesAt layout (image .entry) .grants) (caller .0) index ⌝ }
 {
     match index {
         RowIndex::Existing(n) => given_by(image, layout, n, caller),
@@ -144,7 +145,7 @@ fn has_capacity(layout: Layout, index: RowIndex) -> bool
 
 // The grantor of row n may remove it, and the custodian may remove any row.
 fn may_remove(image: &[u8], layout: Layout, n: u32, caller: Subject) -> bool
-    ensures { λ r. ⌜ r ≡ (givenAt (tablesBy layout (now (image .entry)) .grants) (caller .0) n || eqb (caller .0) custodian) ⌝ }
+    ensures { λ r. ⌜ r ≡ (givenAt (tablesAt layout (image .entry) .grants) (caller .0) n || eqb (caller .0) custodian) ⌝ }
 {
     if given_by(image, layout, n, caller) {
         return true;
@@ -154,7 +155,7 @@ fn may_remove(image: &[u8], layout: Layout, n: u32, caller: Subject) -> bool
 
 // Whether this grantor gave row n.
 fn given_by(image: &[u8], layout: Layout, n: u32, grantor: Subject) -> bool
-    ensures { λ r. ⌜ r ≡ givenAt (tablesBy layout (now (image .entry)) .grants) (grantor .0) n ⌝ }
+    ensures { λ r. ⌜ r ≡ givenAt (tablesAt layout (image .entry) .grants) (grantor .0) n ⌝ }
 {
     let row = grant_at(image, layout, n);
     row.grantor.0 == grantor.0

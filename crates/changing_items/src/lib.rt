@@ -1,9 +1,10 @@
 // The calls that change items: create item, bind and hand over.
 ghost use mathlib.Core.Path.{_≡_};
-ghost use Rattle.model.specs.Image.{tablesBy, itemIn, withList, withOwner};
+ghost use Rattle.model.specs.Image.{itemIn, withList, withOwner};
 ghost use Rattle.model.specs.Calls.Change.{createItem, bind, handOver};
 ghost use Rattle.model.specs.Questions.{act};
 ghost use Rattle.store.specs.Stores.{overItem};
+ghost use Rattle.model.specs.Lent.{tablesAt};
 use crate::questions::bind_refusal;
 use crate::questions::create_refusal;
 use crate::questions::hand_over_refusal;
@@ -85,7 +86,7 @@ pub fn hand_over(image: &mut [u8], caller: Subject, item: Item, owner: Subject) 
 
 // Writes the item's row as it was read, but for the list.
 fn put_list(image: &mut [u8], layout: Layout, item: Item, list: Item)
-    ensures { λ _. let t = tablesBy layout (now (image .entry)) in
+    ensures { λ _. let t = tablesAt layout (image .entry) in
         ⌜ now (image .exit)
         ≡ overItem (layout .items) (item .0) (withList (itemIn (t .items) (item .0)) (list .0)) (now (image .entry)) ⌝ }
 {
@@ -95,7 +96,7 @@ fn put_list(image: &mut [u8], layout: Layout, item: Item, list: Item)
 
 // Writes the item's row as it was read, but for the owner.
 fn put_owner(image: &mut [u8], layout: Layout, item: Item, owner: Subject)
-    ensures { λ _. let t = tablesBy layout (now (image .entry)) in
+    ensures { λ _. let t = tablesAt layout (image .entry) in
         ⌜ now (image .exit)
         ≡ overItem (layout .items) (item .0) (withOwner (itemIn (t .items) (item .0)) (owner .0)) (now (image .entry)) ⌝ }
 {

@@ -2,9 +2,9 @@
 // 0 where every question is answered yes.
 ghost use mathlib.Core.Path.{_≡_};
 ghost use lib.ListN.{take};
-ghost use Rattle.model.specs.Image.{tablesBy};
 ghost use Rattle.model.specs.Calls.Change.{createItem, bind, handOver};
 ghost use Rattle.model.specs.Questions.{firstNo, questions, mayBind};
+ghost use Rattle.model.specs.Lent.{tablesAt};
 use model::CREATE_ITEM;
 use model::CUSTODIAN;
 use model::Item;
@@ -30,7 +30,7 @@ pub fn create_refusal(
     list: Item,
     flags: u32,
 ) -> u32
-    ensures { λ r. ⌜ r ≡ firstNo (questions (tablesBy layout (now (image .entry))) (createItem (caller .0) (role .0) (list .0) flags)) ⌝ }
+    ensures { λ r. ⌜ r ≡ firstNo (questions (tablesAt layout (image .entry)) (createItem (caller .0) (role .0) (list .0) flags)) ⌝ }
 {
     let number = named_refusal(image, layout, caller, role, list, flags);
     if number != 0 {
@@ -57,7 +57,7 @@ fn named_refusal(
     list: Item,
     flags: u32,
 ) -> u32
-    ensures { λ r. let t = tablesBy layout (now (image .entry)) in
+    ensures { λ r. let t = tablesAt layout (image .entry) in
         ⌜ r ≡ firstNo (take 3 (questions t (createItem (caller .0) (role .0) (list .0) flags))) ⌝ }
 {
     if !subject_used(image, layout, caller) {
@@ -73,7 +73,7 @@ fn named_refusal(
 }
 
 pub fn bind_refusal(image: &[u8], layout: Layout, caller: Subject, item: Item, list: Item) -> u32
-    ensures { λ r. ⌜ r ≡ firstNo (questions (tablesBy layout (now (image .entry))) (bind (caller .0) (item .0) (list .0))) ⌝ }
+    ensures { λ r. ⌜ r ≡ firstNo (questions (tablesAt layout (image .entry)) (bind (caller .0) (item .0) (list .0))) ⌝ }
 {
     if !subject_used(image, layout, caller) {
         return refusal::CALLER;
@@ -92,7 +92,7 @@ pub fn bind_refusal(image: &[u8], layout: Layout, caller: Subject, item: Item, l
 
 // The custodian may bind any item, and the owner may bind an item that is not locked.
 fn may_bind(image: &[u8], layout: Layout, caller: Subject, item: Item) -> bool
-    ensures { λ r. ⌜ r ≡ mayBind (tablesBy layout (now (image .entry))) (caller .0) (item .0) ⌝ }
+    ensures { λ r. ⌜ r ≡ mayBind (tablesAt layout (image .entry)) (caller .0) (item .0) ⌝ }
 {
     if caller.0 == CUSTODIAN {
         return true;
@@ -111,7 +111,7 @@ pub fn hand_over_refusal(
     item: Item,
     owner: Subject,
 ) -> u32
-    ensures { λ r. ⌜ r ≡ firstNo (questions (tablesBy layout (now (image .entry))) (handOver (caller .0) (item .0) (owner .0))) ⌝ }
+    ensures { λ r. ⌜ r ≡ firstNo (questions (tablesAt layout (image .entry)) (handOver (caller .0) (item .0) (owner .0))) ⌝ }
 {
     if !subject_used(image, layout, caller) {
         return refusal::CALLER;

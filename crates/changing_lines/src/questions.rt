@@ -6,11 +6,12 @@ ghost use mathlib.Core.Path.{_≡_};
 ghost use lib.Dec.{ltb};
 ghost use lib.ListN.{take};
 ghost use Rattle.model.specs.Sorted.{insertionIndex};
-ghost use Rattle.model.specs.Image.{tablesBy, capacitiesBy, lineKey};
+ghost use Rattle.model.specs.Image.{capacitiesBy, lineKey};
 ghost use Rattle.model.specs.Calls.Change.{setLine, removeLine};
 ghost use Rattle.model.specs.Questions.{questions, firstNo};
 ghost use Rattle.search.specs.RowIndices.{isExisting, rowIndex};
 ghost use Rattle.store.specs.Stores.{storing, removing, storingNumber, removingNumber};
+ghost use Rattle.model.specs.Lent.{tablesAt};
 use model::Item;
 use model::Layout;
 use model::Privileges;
@@ -42,10 +43,10 @@ pub fn set_line_storing(
     subject: Subject,
     privileges: Privileges,
 ) -> Storing
-    ensures { λ r. let t = tablesBy layout (now (image .entry)) in
+    ensures { λ r. let t = tablesAt layout (image .entry) in
         ⌜ r ≡ storing (firstNo (questions t (setLine (caller .0) (role .0) (list .0) kind (subject .0) privileges)))
         (rowIndex lineKey (list .0 ∷ kind ∷ subject .0 ∷ []) (t .lines)) ⌝ }
-    ensures { λ r. let t = tablesBy layout (now (image .entry)) in
+    ensures { λ r. let t = tablesAt layout (image .entry) in
         ⌜ storingNumber r ≡ firstNo (questions t (setLine (caller .0) (role .0) (list .0) kind (subject .0) privileges)) ⌝ }
 {
     let number = named_refusal(image, layout, caller, list, kind, subject);
@@ -75,10 +76,10 @@ pub fn remove_line_removing(
     kind: u32,
     subject: Subject,
 ) -> Removing
-    ensures { λ r. let t = tablesBy layout (now (image .entry)) in
+    ensures { λ r. let t = tablesAt layout (image .entry) in
         ⌜ r ≡ removing (firstNo (questions t (removeLine (caller .0) (role .0) (list .0) kind (subject .0))))
         (insertionIndex lineKey (list .0 ∷ kind ∷ subject .0 ∷ []) (t .lines)) ⌝ }
-    ensures { λ r. let t = tablesBy layout (now (image .entry)) in
+    ensures { λ r. let t = tablesAt layout (image .entry) in
         ⌜ removingNumber r ≡ firstNo (questions t (removeLine (caller .0) (role .0) (list .0) kind (subject .0))) ⌝ }
 {
     let number = named_refusal(image, layout, caller, list, kind, subject);
@@ -108,7 +109,7 @@ fn named_refusal(
     kind: u32,
     subject: Subject,
 ) -> u32
-    ensures { λ r. let t = tablesBy layout (now (image .entry)) in
+    ensures { λ r. let t = tablesAt layout (image .entry) in
         ⌜ r ≡ firstNo (take 4 (questions t (removeLine (caller .0) 0 (list .0) kind (subject .0)))) ⌝ }
 {
     if !subject_used(image, layout, caller) {

@@ -1,10 +1,11 @@
 // The call that changes subjects: define subject.
 ghost use mathlib.Core.Path.{_≡_};
-ghost use Rattle.model.specs.Image.{tablesBy, widthOf, subjectFormat, subjectRow};
+ghost use Rattle.model.specs.Image.{widthOf, subjectFormat, subjectRow};
 ghost use Rattle.model.specs.Calls.{newPrivileges};
 ghost use Rattle.model.specs.Calls.Change.{defineSubject};
 ghost use Rattle.model.specs.Questions.{act};
 ghost use Rattle.store.specs.Stores.{subjectsCounter, withRow};
+ghost use Rattle.model.specs.Lent.{tablesAt};
 use crate::questions::define_refusal;
 use acceptance::open;
 use model::Answer;
@@ -57,7 +58,7 @@ fn add_defined(
     parent: Subject,
     privileges: Privileges,
 )
-    ensures { λ _. let t = tablesBy layout (now (image .entry)) in
+    ensures { λ _. let t = tablesAt layout (image .entry) in
         ⌜ now (image .exit)
         ≡ withRow (subjectFormat (widthOf layout)) subjectsCounter (layout .subjects) (layout .subjects .used)
         (subjectRow (parent .0) (newPrivileges t (caller .0) privileges) (caller .0)) (now (image .entry)) ⌝ }
@@ -74,7 +75,7 @@ fn new_privileges(
     caller: Subject,
     privileges: Privileges,
 ) -> Privileges
-    ensures { λ r. ⌜ r ≡ newPrivileges (tablesBy layout (now (image .entry))) (caller .0) privileges ⌝ }
+    ensures { λ r. ⌜ r ≡ newPrivileges (tablesAt layout (image .entry)) (caller .0) privileges ⌝ }
 {
     if caller.0 == CUSTODIAN {
         return privileges;

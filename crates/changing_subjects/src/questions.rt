@@ -1,10 +1,10 @@
 // The questions of define subject, after those of the image.
 ghost use mathlib.Core.Path.{_≡_};
 ghost use lib.ListN.{take};
-ghost use Rattle.model.specs.Image.{tablesBy};
 ghost use Rattle.model.specs.Permission.{foundGrant};
 ghost use Rattle.model.specs.Calls.Change.{defineSubject};
 ghost use Rattle.model.specs.Questions.{firstNo, questions, inReachUnder};
+ghost use Rattle.model.specs.Lent.{tablesAt};
 use model::DEFINE_SUBJECT;
 use model::Layout;
 use model::Privileges;
@@ -29,7 +29,7 @@ pub fn define_refusal(
     parent: Subject,
     privileges: Privileges,
 ) -> u32
-    ensures { λ r. let t = tablesBy layout (now (image .entry)) in
+    ensures { λ r. let t = tablesAt layout (image .entry) in
         ⌜ r ≡ firstNo (questions t (defineSubject (caller .0) (role .0) (parent .0) privileges)) ⌝ }
 {
     let number = named_refusal(image, layout, caller, role, parent, privileges);
@@ -61,7 +61,7 @@ fn named_refusal(
     parent: Subject,
     privileges: Privileges,
 ) -> u32
-    ensures { λ r. let t = tablesBy layout (now (image .entry)) in
+    ensures { λ r. let t = tablesAt layout (image .entry) in
         ⌜ r ≡ firstNo (take 2 (questions t (defineSubject (caller .0) (role .0) (parent .0) privileges))) ⌝ }
 {
     if !subject_used(image, layout, caller) {
@@ -81,7 +81,7 @@ fn in_reach(
     grant: SoughtGrant,
     parent: Subject,
 ) -> bool
-    ensures { λ r. ⌜ r ≡ inReachUnder (tablesBy layout (now (image .entry))) (caller .0) (foundGrant grant) (parent .0) ⌝ }
+    ensures { λ r. ⌜ r ≡ inReachUnder (tablesAt layout (image .entry)) (caller .0) (foundGrant grant) (parent .0) ⌝ }
 {
     if in_tree(image, layout, caller, parent) {
         return true;

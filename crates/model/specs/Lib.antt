@@ -2,7 +2,7 @@
 -- one file for each section, in the document's order. One section is not here: the sequences of demand 3 are defined beside
 -- their theorem, in the crate `strangers`. A call's contract cites these definitions and nothing else.
 -- The laws about them are in the crate `laws`. Only the twelve sets of the sample workshop are proved here; `Computing` names
--- what that proof unfolds.
+-- what that proof unfolds. `Lent` has a word for contracts of functions below the calls.
 pub mod Lists
 pub mod Sorted
 pub mod Tree
@@ -12,5 +12,6 @@ pub mod Permission
 pub mod Calls
 pub mod Questions
 pub mod Sample
+pub mod Lent
 pub mod Computing
 pub mod Twelve

@@ -1,8 +1,8 @@
 // How a permission is found: the sets of a subject, under a grant that it holds or might hold, and under the role that it
 // claims. No function checks the image: a caller that has checked it once may ask for any number of sets.
 ghost use mathlib.Core.Path.{_≡_};
-ghost use Rattle.model.specs.Image.{tablesBy};
 ghost use Rattle.model.specs.Permission.{foundGrant, grantOf, operationUnder, objectUnder, permissionUnder, operationSet, permissionSet};
+ghost use Rattle.model.specs.Lent.{tablesAt};
 use crate::parts::lent_operations;
 use crate::parts::lent_part;
 use crate::parts::lines_part;
@@ -20,7 +20,7 @@ use tables::subjects::privileges_of;
 
 // The grant of a claimed role. Role 0 means no role.
 pub fn grant_of(image: &[u8], layout: Layout, subject: Subject, role: Role) -> SoughtGrant
-    ensures { λ r. ⌜ foundGrant r ≡ grantOf (tablesBy layout (now (image .entry))) (subject .0) (role .0) ⌝ }
+    ensures { λ r. ⌜ foundGrant r ≡ grantOf (tablesAt layout (image .entry)) (subject .0) (role .0) ⌝ }
 {
     if role.0 == 0 {
         return SoughtGrant::NoGrant;
@@ -34,7 +34,7 @@ pub fn operations_under(
     subject: Subject,
     grant: SoughtGrant,
 ) -> Privileges
-    ensures { λ r. ⌜ r ≡ operationUnder (tablesBy layout (now (image .entry))) (subject .0) (foundGrant grant) ⌝ }
+    ensures { λ r. ⌜ r ≡ operationUnder (tablesAt layout (image .entry)) (subject .0) (foundGrant grant) ⌝ }
 {
     let own = privileges_of(image, layout, subject);
     let lent = lent_operations(image, layout, grant);
@@ -49,7 +49,7 @@ pub fn objects_under(
     grant: SoughtGrant,
     item: Item,
 ) -> Privileges
-    ensures { λ r. ⌜ r ≡ objectUnder (tablesBy layout (now (image .entry))) (subject .0) (foundGrant grant) (item .0) ⌝ }
+    ensures { λ r. ⌜ r ≡ objectUnder (tablesAt layout (image .entry)) (subject .0) (foundGrant grant) (item .0) ⌝ }
 {
     let row = item_at(image, layout, item);
     let own = lines_part(image, layout, subject, row);
@@ -64,7 +64,7 @@ pub fn permissions_under(
     grant: SoughtGrant,
     item: Item,
 ) -> Privileges
-    ensures { λ r. ⌜ r ≡ permissionUnder (tablesBy layout (now (image .entry))) (subject .0) (foundGrant grant) (item .0) ⌝ }
+    ensures { λ r. ⌜ r ≡ permissionUnder (tablesAt layout (image .entry)) (subject .0) (foundGrant grant) (item .0) ⌝ }
 {
     let operations = operations_under(image, layout, subject, grant);
     let objects = objects_under(image, layout, subject, grant, item);
@@ -73,7 +73,7 @@ pub fn permissions_under(
 
 // The operation set.
 pub fn operations(image: &[u8], layout: Layout, subject: Subject, role: Role) -> Privileges
-    ensures { λ r. ⌜ r ≡ operationSet (tablesBy layout (now (image .entry))) (subject .0) (role .0) ⌝ }
+    ensures { λ r. ⌜ r ≡ operationSet (tablesAt layout (image .entry)) (subject .0) (role .0) ⌝ }
 {
     operations_under(
         image,
@@ -91,7 +91,7 @@ pub fn permissions(
     role: Role,
     item: Item,
 ) -> Privileges
-    ensures { λ r. ⌜ r ≡ permissionSet (tablesBy layout (now (image .entry))) (subject .0) (role .0) (item .0) ⌝ }
+    ensures { λ r. ⌜ r ≡ permissionSet (tablesAt layout (image .entry)) (subject .0) (role .0) (item .0) ⌝ }
 {
     permissions_under(
         image,

@@ -4,9 +4,10 @@ ghost use mathlib.Core.Logic.{_≢_};
 ghost use mathlib.Core.Path.{_≡_};
 ghost use lib.ListN.{getElem?};
 ghost use Rattle.model.specs.Lists.{orElse};
-ghost use Rattle.model.specs.Image.{tablesBy, parentIn};
+ghost use Rattle.model.specs.Image.{parentIn};
 ghost use Rattle.model.specs.Permission.{foundLine, lineIn, groupLine, directLine};
 ghost use Rattle.permission.specs.Climbing.{climbingLayout};
+ghost use Rattle.model.specs.Lent.{tablesAt};
 use model::Item;
 use model::Layout;
 use model::LineRow;
@@ -21,7 +22,7 @@ use tables::subjects::parent_of;
 
 // The line of a list for a kind and a subject. No list means no lines.
 pub fn line_of(image: &[u8], layout: Layout, list: Item, kind: u32, subject: Subject) -> SoughtLine
-    ensures { λ r. ⌜ foundLine r ≡ lineIn (tablesBy layout (now (image .entry)) .lines) (list .0) kind (subject .0) ⌝ }
+    ensures { λ r. ⌜ foundLine r ≡ lineIn (tablesAt layout (image .entry) .lines) (list .0) kind (subject .0) ⌝ }
 {
     if list.0 == 0 {
         return SoughtLine::NoLine;
@@ -31,7 +32,7 @@ pub fn line_of(image: &[u8], layout: Layout, list: Item, kind: u32, subject: Sub
 
 // The lowest group line above a subject.
 pub fn group_line(image: &[u8], layout: Layout, subject: Subject, list: Item) -> SoughtLine
-    ensures { λ r. let t = tablesBy layout (now (image .entry)) in
+    ensures { λ r. let t = tablesAt layout (image .entry) in
         ⌜ foundLine r ≡ groupLine (parentIn (t .subjects)) (t .lines) (subject .0) (list .0) ⌝ }
 {
     if list.0 == 0 {
@@ -67,7 +68,7 @@ fn group_index(
     list: Item,
 ) -> u32
     requires { ⌜ list .0 ≢ 0 ⌝ }
-    ensures { λ r. let t = tablesBy (climbingLayout «subjects_used» «subjects_start» «lines_used» «lines_start») (now (image .entry)) in
+    ensures { λ r. let t = tablesAt (climbingLayout «subjects_used» «subjects_start» «lines_used» «lines_start») (image .entry) in
         ⌜ getElem? (t .lines) r ≡ groupLine (parentIn (t .subjects)) (t .lines) (subject .0) (list .0) ⌝ }
 {
     let layout = climbing_layout(subjects_used, subjects_start, lines_used, lines_start);
@@ -128,7 +129,7 @@ pub fn direct_line(
     owner: Subject,
     list: Item,
 ) -> SoughtLine
-    ensures { λ r. ⌜ foundLine r ≡ directLine (tablesBy layout (now (image .entry)) .lines) (subject .0) (owner .0) (list .0) ⌝ }
+    ensures { λ r. ⌜ foundLine r ≡ directLine (tablesAt layout (image .entry) .lines) (subject .0) (owner .0) (list .0) ⌝ }
 {
     if subject.0 == owner.0 {
         return line_of(image, layout, list, LineRow::OWNER, Subject(0));
@@ -144,7 +145,7 @@ pub fn deciding_line(
     owner: Subject,
     list: Item,
 ) -> SoughtLine
-    ensures { λ r. let t = tablesBy layout (now (image .entry)) in
+    ensures { λ r. let t = tablesAt layout (image .entry) in
         ⌜ foundLine r ≡ orElse (directLine (t .lines) (subject .0) (owner .0) (list .0))
         (groupLine (parentIn (t .subjects)) (t .lines) (subject .0) (list .0)) ⌝ }
 {

@@ -1,7 +1,7 @@
 // What lines give a subject on an item, and what a grant adds.
 ghost use mathlib.Core.Path.{_≡_};
-ghost use Rattle.model.specs.Image.{tablesBy};
 ghost use Rattle.model.specs.Permission.{foundLine, foundGrant, lineSet, partOn, lentOperations, lentOn};
+ghost use Rattle.model.specs.Lent.{tablesAt};
 use crate::lines::deciding_line;
 use crate::lines::line_of;
 use model::CUSTODIAN;
@@ -32,7 +32,7 @@ pub fn line_set(found: SoughtLine) -> Privileges
 // for. The line for everyone is looked up first. What the two lines give is joined, so the order decides nothing but
 // speed, and this one was measured to be faster (docs/DECISIONS.md, D9).
 pub fn lines_part(image: &[u8], layout: Layout, subject: Subject, item: ItemRow) -> Privileges
-    ensures { λ r. ⌜ r ≡ partOn (tablesBy layout (now (image .entry))) (subject .0) item ⌝ }
+    ensures { λ r. ⌜ r ≡ partOn (tablesAt layout (image .entry)) (subject .0) item ⌝ }
 {
     if subject.0 == CUSTODIAN {
         return all_privileges(layout);
@@ -47,7 +47,7 @@ pub fn lines_part(image: &[u8], layout: Layout, subject: Subject, item: ItemRow)
 
 // What a grant adds to the operation set: its privileges that its grantor also has.
 pub fn lent_operations(image: &[u8], layout: Layout, grant: SoughtGrant) -> Privileges
-    ensures { λ r. ⌜ r ≡ lentOperations (tablesBy layout (now (image .entry))) (foundGrant grant) ⌝ }
+    ensures { λ r. ⌜ r ≡ lentOperations (tablesAt layout (image .entry)) (foundGrant grant) ⌝ }
 {
     match grant {
         SoughtGrant::Grant(row) => intersection(
@@ -61,7 +61,7 @@ pub fn lent_operations(image: &[u8], layout: Layout, grant: SoughtGrant) -> Priv
 // What a grant adds to the object set of an item whose owner is in the grant's domain: its privileges that are in its
 // grantor's lines' part.
 pub fn lent_part(image: &[u8], layout: Layout, grant: SoughtGrant, item: ItemRow) -> Privileges
-    ensures { λ r. ⌜ r ≡ lentOn (tablesBy layout (now (image .entry))) (foundGrant grant) item ⌝ }
+    ensures { λ r. ⌜ r ≡ lentOn (tablesAt layout (image .entry)) (foundGrant grant) item ⌝ }
 {
     match grant {
         SoughtGrant::Grant(row) => {

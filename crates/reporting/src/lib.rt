@@ -3,8 +3,8 @@
 ghost use mathlib.Core.Path.{_≡_};
 ghost use Prim.Native.Nat.{_+_, _-_, _^_, _<_};
 ghost use lib.ListN.{length};
-ghost use Rattle.model.specs.Image.{tablesBy};
 ghost use Rattle.reporting.specs.Pages.{firstLine, lineCount, page as Pages·page, pageSize, endingIn};
+ghost use Rattle.model.specs.Lent.{tablesAt};
 use crate::lines::put_lines;
 use crate::text::put_bytes;
 use crate::text::put_number;
@@ -36,7 +36,7 @@ pub fn first_line(number: u32, page: &mut [u8; PAGE]) -> usize
 // How many lines come after the first: one for each subject and item. The second `ensures` lets callers add the lines of a
 // page to a line's number without a test for overflow.
 pub fn line_count(image: &[u8], layout: Layout) -> u64
-    ensures { λ r. ⌜ r ≡ lineCount (tablesBy layout (now (image .entry))) ⌝ }
+    ensures { λ r. ⌜ r ≡ lineCount (tablesAt layout (image .entry)) ⌝ }
     ensures { λ r. ⌜ r + 2 ^ 32 < 2 ^ 64 ⌝ }
 {
     let subjects = layout.subjects;
@@ -48,8 +48,8 @@ pub fn line_count(image: &[u8], layout: Layout) -> u64
 // begin within a subject's lines, and few items do not make small pages. Answers the offset in the page at which the lines
 // start, which is the end of the page where no line is left.
 pub fn lines_page(image: &[u8], layout: Layout, first: u64, page: &mut [u8; PAGE]) -> usize
-    ensures { λ r. ⌜ r ≡ pageSize - length (Pages·page (tablesBy layout (now (image .entry))) first) ⌝ }
-    ensures { λ _. ⌜ now (page .exit) ≡ endingIn (now (page .entry)) (Pages·page (tablesBy layout (now (image .entry))) first) ⌝ }
+    ensures { λ r. ⌜ r ≡ pageSize - length (Pages·page (tablesAt layout (image .entry)) first) ⌝ }
+    ensures { λ _. ⌜ now (page .exit) ≡ endingIn (now (page .entry)) (Pages·page (tablesAt layout (image .entry)) first) ⌝ }
 {
     let count = line_count(image, layout);
     if count <= first {

@@ -2,9 +2,9 @@
 ghost use mathlib.Core.Path.{_≡_};
 ghost use Prim.Native.Nat.{_+_, _^_, _<_, _≤_};
 ghost use lib.ListN.{length};
-ghost use Rattle.model.specs.Image.{tablesBy};
 ghost use Rattle.reporting.specs.Report.{reportLine};
 ghost use Rattle.reporting.specs.Pages.{lineCount, lineAt, linesFrom, pageSize, pageLines, Put};
+ghost use Rattle.model.specs.Lent.{tablesAt};
 use super::PAGE;
 use super::text::put_number;
 use model::Item;
@@ -17,8 +17,8 @@ use permission::decision::permissions;
 // Writes lines at the end of a page, from the last line to the first.
 pub fn put_lines(image: &[u8], layout: Layout, first: u64, count: u64, page: &mut [u8]) -> usize
     requires { ⌜ length (now page) ≡ pageSize ⌝ }
-    requires { ⌜ (count ≤ pageLines) × (first + count < 2 ^ 64) × (first + count ≤ lineCount (tablesBy layout (now image))) ⌝ }
-    ensures { λ r. let t = tablesBy layout (now (image .entry)) in
+    requires { ⌜ (count ≤ pageLines) × (first + count < 2 ^ 64) × (first + count ≤ lineCount (tablesAt layout image)) ⌝ }
+    ensures { λ r. let t = tablesAt layout (image .entry) in
         ⌜ Put (now (page .entry)) pageSize (linesFrom t first count) (now (page .exit)) r ⌝ }
 {
     let mut left = count;
@@ -32,9 +32,9 @@ pub fn put_lines(image: &[u8], layout: Layout, first: u64, count: u64, page: &mu
 
 // Writes one line so that it ends before offset `end` of the page.
 fn put_line(image: &[u8], layout: Layout, number: u64, page: &mut [u8], end: usize) -> usize
-    requires { ⌜ number < lineCount (tablesBy layout (now image)) ⌝ }
+    requires { ⌜ number < lineCount (tablesAt layout image) ⌝ }
     requires { ⌜ (63 ≤ end) × (end ≤ length (now page)) ⌝ }
-    ensures { λ r. ⌜ Put (now (page .entry)) end (lineAt (tablesBy layout (now (image .entry))) number) (now (page .exit)) r ⌝ }
+    ensures { λ r. ⌜ Put (now (page .entry)) end (lineAt (tablesAt layout (image .entry)) number) (now (page .exit)) r ⌝ }
     ensures { λ r. ⌜ end ≤ r + 63 ⌝ }
 {
     let table = layout.items;

@@ -2,9 +2,10 @@
 ghost use mathlib.Core.List.{[], _∷_};
 ghost use mathlib.Core.Path.{_≡_};
 ghost use Rattle.model.specs.Sorted.{before, same, insertionIndex, find};
-ghost use Rattle.model.specs.Image.{tablesBy, grantKey};
+ghost use Rattle.model.specs.Image.{grantKey};
 ghost use Rattle.search.specs.RowIndices.{rowIndex};
 ghost use Rattle.model.specs.Permission.{foundGrant};
+ghost use Rattle.model.specs.Lent.{tablesAt};
 use crate::RowIndex;
 use model::GrantRow;
 use model::Layout;
@@ -35,7 +36,7 @@ pub fn is_grant(row: GrantRow, receiver: Subject, role: Role) -> bool
 
 // The insertion index of a key: the number of rows with a lower key. The pass ends at the first row whose key is not lower.
 pub fn grant_insertion_index(image: &[u8], layout: Layout, receiver: Subject, role: Role) -> u32
-    ensures { λ r. ⌜ r ≡ insertionIndex grantKey (receiver .0 ∷ role .0 ∷ []) (tablesBy layout (now (image .entry)) .grants) ⌝ }
+    ensures { λ r. ⌜ r ≡ insertionIndex grantKey (receiver .0 ∷ role .0 ∷ []) (tablesAt layout (image .entry) .grants) ⌝ }
 {
     let table = layout.grants;
     let used = table.used;
@@ -50,7 +51,7 @@ pub fn grant_insertion_index(image: &[u8], layout: Layout, receiver: Subject, ro
 }
 
 pub fn find_grant(image: &[u8], layout: Layout, receiver: Subject, role: Role) -> SoughtGrant
-    ensures { λ r. ⌜ foundGrant r ≡ find grantKey (receiver .0 ∷ role .0 ∷ []) (tablesBy layout (now (image .entry)) .grants) ⌝ }
+    ensures { λ r. ⌜ foundGrant r ≡ find grantKey (receiver .0 ∷ role .0 ∷ []) (tablesAt layout (image .entry) .grants) ⌝ }
 {
     let table = layout.grants;
     let index = grant_insertion_index(image, layout, receiver, role);
@@ -66,7 +67,7 @@ pub fn find_grant(image: &[u8], layout: Layout, receiver: Subject, role: Role) -
 
 // The row index of a key. One search finds it, and the questions of a call and its change share it.
 pub fn grant_index(image: &[u8], layout: Layout, receiver: Subject, role: Role) -> RowIndex
-    ensures { λ r. ⌜ r ≡ rowIndex grantKey (receiver .0 ∷ role .0 ∷ []) (tablesBy layout (now (image .entry)) .grants) ⌝ }
+    ensures { λ r. ⌜ r ≡ rowIndex grantKey (receiver .0 ∷ role .0 ∷ []) (tablesAt layout (image .entry) .grants) ⌝ }
 {
     let table = layout.grants;
     let index = grant_insertion_index(image, layout, receiver, role);

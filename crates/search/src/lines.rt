@@ -2,9 +2,10 @@
 ghost use mathlib.Core.List.{[], _∷_};
 ghost use mathlib.Core.Path.{_≡_};
 ghost use Rattle.model.specs.Sorted.{before, same, insertionIndex, find};
-ghost use Rattle.model.specs.Image.{tablesBy, lineKey, kindFits};
+ghost use Rattle.model.specs.Image.{lineKey, kindFits};
 ghost use Rattle.search.specs.RowIndices.{rowIndex};
 ghost use Rattle.model.specs.Permission.{foundLine};
+ghost use Rattle.model.specs.Lent.{tablesAt};
 use crate::RowIndex;
 use model::Item;
 use model::Layout;
@@ -60,7 +61,7 @@ pub fn line_insertion_index(
     kind: u32,
     subject: Subject,
 ) -> u32
-    ensures { λ r. ⌜ r ≡ insertionIndex lineKey (list .0 ∷ kind ∷ subject .0 ∷ []) (tablesBy layout (now (image .entry)) .lines) ⌝ }
+    ensures { λ r. ⌜ r ≡ insertionIndex lineKey (list .0 ∷ kind ∷ subject .0 ∷ []) (tablesAt layout (image .entry) .lines) ⌝ }
 {
     let table = layout.lines;
     let used = table.used;
@@ -81,7 +82,7 @@ pub fn find_line(
     kind: u32,
     subject: Subject,
 ) -> SoughtLine
-    ensures { λ r. ⌜ foundLine r ≡ find lineKey (list .0 ∷ kind ∷ subject .0 ∷ []) (tablesBy layout (now (image .entry)) .lines) ⌝ }
+    ensures { λ r. ⌜ foundLine r ≡ find lineKey (list .0 ∷ kind ∷ subject .0 ∷ []) (tablesAt layout (image .entry) .lines) ⌝ }
 {
     let table = layout.lines;
     let index = line_insertion_index(image, layout, list, kind, subject);
@@ -97,7 +98,7 @@ pub fn find_line(
 
 // The row index of a key. One search finds it, and the questions of a call and its change share it.
 pub fn line_index(image: &[u8], layout: Layout, list: Item, kind: u32, subject: Subject) -> RowIndex
-    ensures { λ r. ⌜ r ≡ rowIndex lineKey (list .0 ∷ kind ∷ subject .0 ∷ []) (tablesBy layout (now (image .entry)) .lines) ⌝ }
+    ensures { λ r. ⌜ r ≡ rowIndex lineKey (list .0 ∷ kind ∷ subject .0 ∷ []) (tablesAt layout (image .entry) .lines) ⌝ }
 {
     let table = layout.lines;
     let index = line_insertion_index(image, layout, list, kind, subject);

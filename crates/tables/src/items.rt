@@ -1,13 +1,14 @@
 // Items by number.
 ghost use mathlib.Core.Path.{_≡_};
-ghost use Rattle.model.specs.Image.{tablesBy, itemUsed, isList, noneOrList};
+ghost use Rattle.model.specs.Image.{itemUsed, isList, noneOrList};
+ghost use Rattle.model.specs.Lent.{tablesAt};
 use model::Item;
 use model::Layout;
 use rows::read::item_at;
 
 // Only the layout is read. The image is handed over so that the contract can name the table that is answered by.
 pub fn item_used(image: &[u8], layout: Layout, item: Item) -> bool
-    ensures { λ r. ⌜ r ≡ itemUsed (tablesBy layout (now (image .entry)) .items) (item .0) ⌝ }
+    ensures { λ r. ⌜ r ≡ itemUsed (tablesAt layout (image .entry) .items) (item .0) ⌝ }
 {
     if item.0 == 0 {
         return false;
@@ -18,7 +19,7 @@ pub fn item_used(image: &[u8], layout: Layout, item: Item) -> bool
 
 // The item is an access list.
 pub fn is_list(image: &[u8], layout: Layout, item: Item) -> bool
-    ensures { λ r. ⌜ r ≡ isList (tablesBy layout (now (image .entry)) .items) (item .0) ⌝ }
+    ensures { λ r. ⌜ r ≡ isList (tablesAt layout (image .entry) .items) (item .0) ⌝ }
 {
     if !item_used(image, layout, item) {
         return false;
@@ -29,7 +30,7 @@ pub fn is_list(image: &[u8], layout: Layout, item: Item) -> bool
 
 // The item is an access list, or 0 for none.
 pub fn none_or_list(image: &[u8], layout: Layout, item: Item) -> bool
-    ensures { λ r. ⌜ r ≡ noneOrList (tablesBy layout (now (image .entry)) .items) (item .0) ⌝ }
+    ensures { λ r. ⌜ r ≡ noneOrList (tablesAt layout (image .entry) .items) (item .0) ⌝ }
 {
     if item.0 == 0 {
         return true;

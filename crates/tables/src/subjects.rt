@@ -1,7 +1,8 @@
 // Subjects by number, and their tree.
 ghost use mathlib.Core.Path.{_≡_};
 ghost use Rattle.model.specs.Tree.{inTree};
-ghost use Rattle.model.specs.Image.{tablesBy, subjectUsed, parentIn, privilegesIn};
+ghost use Rattle.model.specs.Image.{subjectUsed, parentIn, privilegesIn};
+ghost use Rattle.model.specs.Lent.{tablesAt};
 use model::Layout;
 use model::Privileges;
 use model::Subject;
@@ -11,21 +12,21 @@ use rows::read::subject_rows;
 
 // Only the layout is read. The image is handed over so that the contract can name the table that is answered by.
 pub fn subject_used(image: &[u8], layout: Layout, subject: Subject) -> bool
-    ensures { λ r. ⌜ r ≡ subjectUsed (tablesBy layout (now (image .entry)) .subjects) (subject .0) ⌝ }
+    ensures { λ r. ⌜ r ≡ subjectUsed (tablesAt layout (image .entry) .subjects) (subject .0) ⌝ }
 {
     let table = layout.subjects;
     subject.0 < table.used
 }
 
 pub fn parent_of(image: &[u8], layout: Layout, subject: Subject) -> Subject
-    ensures { λ r. ⌜ r .0 ≡ parentIn (tablesBy layout (now (image .entry)) .subjects) (subject .0) ⌝ }
+    ensures { λ r. ⌜ r .0 ≡ parentIn (tablesAt layout (image .entry) .subjects) (subject .0) ⌝ }
 {
     let row = subject_at(image, layout, subject.0);
     row.parent
 }
 
 pub fn privileges_of(image: &[u8], layout: Layout, subject: Subject) -> Privileges
-    ensures { λ r. ⌜ r ≡ privilegesIn (tablesBy layout (now (image .entry)) .subjects) (subject .0) ⌝ }
+    ensures { λ r. ⌜ r ≡ privilegesIn (tablesAt layout (image .entry) .subjects) (subject .0) ⌝ }
 {
     let row = subject_at(image, layout, subject.0);
     row.privileges
@@ -34,7 +35,7 @@ pub fn privileges_of(image: &[u8], layout: Layout, subject: Subject) -> Privileg
 // The subject is in the tree of a root. A tree has no number lower than its root's, so the climb ends as soon as it is not
 // above the root. It is a loop: document 01 names recursion for the group search only.
 pub fn in_tree(image: &[u8], layout: Layout, root: Subject, subject: Subject) -> bool
-    ensures { λ r. ⌜ r ≡ inTree (parentIn (tablesBy layout (now (image .entry)) .subjects)) (root .0) (subject .0) ⌝ }
+    ensures { λ r. ⌜ r ≡ inTree (parentIn (tablesAt layout (image .entry) .subjects)) (root .0) (subject .0) ⌝ }
 {
     let rows = subject_rows(image, layout);
     let mut at = subject;
