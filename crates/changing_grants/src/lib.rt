@@ -65,8 +65,8 @@ pub fn remove_grant(image: &mut [u8], caller: Subject, receiver: Subject, role: 
     let asked = remove_grant_removing(image, layout, caller, receiver, role);
     match asked {
         Removing::Refused(number) => Answer::refused(number),
-        Removing::Row(row) => {
-            take_grant(image, layout, row);
+        Removing::Row(n) => {
+            take_grant(image, layout, n);
             Answer::done(0)
         }
     }

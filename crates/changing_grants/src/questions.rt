@@ -56,7 +56,7 @@ pub fn set_grant_storing(
     if !may_set(image, layout, index, caller) {
         return Storing::Refused(refusal::NOT_YOURS);
     }
-    if !has_capacity(layout, index) {
+    if !has_row_for(layout, index) {
         return Storing::Refused(refusal::FULL);
     }
     Storing::At(index)
@@ -114,13 +114,13 @@ pub fn remove_grant_removing(
         return Removing::Refused(refusal::RANGE);
     }
     let index = grant_index(image, layout, receiver, role);
-    let RowIndex::Existing(row) = index else {
+    let RowIndex::Existing(n) = index else {
         return Removing::Refused(refusal::NO_ROW);
     };
-    if !may_remove(image, layout, row, caller) {
+    if !may_remove(image, layout, n, caller) {
         return Removing::Refused(refusal::NOT_YOURS);
     }
-    Removing::Row(row)
+    Removing::Row(n)
 }
 
 // Only its grantor may overwrite an existing row. A new row needs no such right.
@@ -134,7 +134,7 @@ fn may_set(image: &[u8], layout: Layout, index: RowIndex, caller: Subject) -> bo
 }
 
 // Only a new row needs a free row: an existing one is overwritten.
-fn has_capacity(layout: Layout, index: RowIndex) -> bool
+fn has_row_for(layout: Layout, index: RowIndex) -> bool
     ensures { λ r. ⌜ r ≡ (isExisting index || ltb (layout .grants .used) (capacitiesBy layout .grants)) ⌝ }
 {
     if index.is_existing() {

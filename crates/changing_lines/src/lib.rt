@@ -73,8 +73,8 @@ pub fn remove_line(
     let asked = remove_line_removing(image, layout, caller, role, list, kind, subject);
     match asked {
         Removing::Refused(number) => Answer::refused(number),
-        Removing::Row(row) => {
-            take_line(image, layout, row);
+        Removing::Row(n) => {
+            take_line(image, layout, n);
             Answer::done(0)
         }
     }

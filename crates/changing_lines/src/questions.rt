@@ -60,7 +60,7 @@ pub fn set_line_storing(
         return Storing::Refused(refusal::RIGHT);
     }
     let index = line_index(image, layout, list, kind, subject);
-    if !has_capacity(layout, index) {
+    if !has_row_for(layout, index) {
         return Storing::Refused(refusal::FULL);
     }
     Storing::At(index)
@@ -94,7 +94,7 @@ pub fn remove_line_removing(
     }
     let index = line_index(image, layout, list, kind, subject);
     match index {
-        RowIndex::Existing(row) => Removing::Row(row),
+        RowIndex::Existing(n) => Removing::Row(n),
         RowIndex::New(_) => Removing::Refused(refusal::NO_ROW),
     }
 }
@@ -128,7 +128,7 @@ fn named_refusal(
 }
 
 // Only a new row needs a free row: an existing one is overwritten.
-fn has_capacity(layout: Layout, index: RowIndex) -> bool
+fn has_row_for(layout: Layout, index: RowIndex) -> bool
     ensures { λ r. ⌜ r ≡ (isExisting index || ltb (layout .lines .used) (capacitiesBy layout .lines)) ⌝ }
 {
     if index.is_existing() {

@@ -33,8 +33,8 @@ returns-3 : tie.Need-returns-3
 unfolding questions
 returns-3 c = store-also _ _ _ (search (store-refused, named-yes, asked-yes, asked-no, set-found))
 
-has-capacity-requires : tie.Need-has-capacity-requires
-has-capacity-requires c κs = search needs
+has-row-for-requires : tie.Need-has-row-for-requires
+has-row-for-requires c κs = search needs
 
 returns-4 : tie.Need-returns-4
 unfolding questions tablesBy
@@ -55,6 +55,6 @@ set-grant-storing-spec =
     grant-index-requires
     may-set-requires
     returns-3
-    has-capacity-requires
+    has-row-for-requires
     returns-4
     returns-5)

@@ -32,8 +32,8 @@ returns-2 c = store-also _ _ _ (search (store-refused, named-yes, right-no))
 line-index-requires : tie.Need-line-index-requires
 line-index-requires c κs = search needs
 
-has-capacity-requires : tie.Need-has-capacity-requires
-has-capacity-requires c κs = search needs
+has-row-for-requires : tie.Need-has-row-for-requires
+has-row-for-requires c κs = search needs
 
 returns-3 : tie.Need-returns-3
 unfolding questions tablesBy
@@ -54,6 +54,6 @@ set-line-storing-spec =
     has-requires
     returns-2
     line-index-requires
-    has-capacity-requires
+    has-row-for-requires
     returns-3
     returns-4)
