@@ -1,14 +1,25 @@
 # What people run: `make report` and `make test`, the two commands of the README; and what they stand on.
-.PHONY: report test archive bench
+.PHONY: report test archive install rust-test bench
 
 # The image to report on: the sample workshop, or `make report IMAGE=path`.
 IMAGE = images/workshop.img
 
+# Where `make install` puts header, library and pkg-config file. DESTDIR stands before it, for packages.
+PREFIX = /usr/local
+
+# The report program and the crates that it stands on. In crates.txt a crate comes after those that it names.
+REPORT_CRATES = $(shell tac crates.txt | awk -F: 'BEGIN { needed["report"] } \
+    $$1 in needed { print $$1; count = split($$2, names, " "); for (n = 1; n <= count; n++) needed[names[n]] }')
+
 # Proves and builds the report program where that has not been done, and prints the report of the image.
 report:
+	@[ -r '$(IMAGE)' ] && [ ! -d '$(IMAGE)' ] || { echo "The image '$(IMAGE)' cannot be read." >&2; exit 1; }
+	@[ -x target/bin/report ] || echo 'The report program is proved before its first run: $(words $(REPORT_CRATES)) crates.' >&2
 	@mkdir -p target
-	@rt check report >target/report.log 2>&1 || { cat target/report.log; exit 1; }
-	@target/bin/report <$(IMAGE)
+	@rt check report 2>&1 | tee target/report.log | awk '/^rt: .* proved \(/ { proved++ } \
+	    /^rt: .* proved \([0-9]+ s\)$$/ { print "proved", proved, "of $(words $(REPORT_CRATES)):", $$2, $$4, $$5; fflush() }' >&2
+	@tail -n 1 target/report.log | grep -q '^rt: ok' || { cat target/report.log >&2; exit 1; }
+	@target/bin/report <'$(IMAGE)'
 
 test:
 	.ci/run
@@ -17,7 +28,24 @@ test:
 archive:
 	rt staticlib dacm
 
-# The library beside the independent Rust implementation, in one run. Not in the gate.
+target/staticlib/libdacm.a:
+	rt staticlib dacm
+
+install: target/staticlib/libdacm.a
+	install -d '$(DESTDIR)$(PREFIX)/include' '$(DESTDIR)$(PREFIX)/lib/pkgconfig'
+	install -m 644 include/dacm.h '$(DESTDIR)$(PREFIX)/include'
+	install -m 644 target/staticlib/libdacm.a '$(DESTDIR)$(PREFIX)/lib'
+	version=$$(sed -n 's/^#define DACM_VERSION "\(.*\)"/\1/p' include/dacm.h); \
+	    sed -e 's|@prefix@|$(PREFIX)|' -e "s|@version@|$$version|" include/dacm.pc.in \
+	    >'$(DESTDIR)$(PREFIX)/lib/pkgconfig/dacm.pc'
+
+# The Rust crate with and without its features, the benchmark, and the tests.
+rust-test: archive
+	cd rust && cargo check --offline --lib --no-default-features
+	cd rust && cargo bench --offline --no-run
+	cd rust && cargo test --offline --release
+
+# The library beside two independent Rust implementations, in one run. Not in the gate.
 bench: archive
 	rt check report
 	cd rust && cargo bench --offline --bench tables

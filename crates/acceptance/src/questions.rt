@@ -20,31 +20,31 @@ pub fn first_no(image: &[u8], layout: Layout) -> u32
     ensures { λ r. ⌜ r ≡ firstNo (questionsBy layout (now (image .entry))) ⌝ }
 {
     if !length_fits(image) {
-        return refusal::LENGTH;
+        return refusal::BAD_LENGTH;
     }
     if !header_holds(image, layout) {
-        return refusal::LAYOUT;
+        return refusal::BAD_LAYOUT;
     }
     if !tables_laid_out(layout) {
-        return refusal::LAYOUT;
+        return refusal::BAD_LAYOUT;
     }
     if !has_subject(layout) {
-        return refusal::LAYOUT;
+        return refusal::BAD_LAYOUT;
     }
     if !subjects_hold(image, layout) {
-        return refusal::SUBJECT_ROWS;
+        return refusal::BAD_SUBJECT_ROW;
     }
     if !items_hold(image, layout) {
-        return refusal::ITEM_ROWS;
+        return refusal::BAD_ITEM_ROW;
     }
     if !lines_hold(image, layout) {
-        return refusal::LINE_ROWS;
+        return refusal::BAD_LINE_ROW;
     }
     if !grants_hold(image, layout) {
-        return refusal::GRANT_ROWS;
+        return refusal::BAD_GRANT_ROW;
     }
     if !unused_is_zero(image, layout) {
-        return refusal::UNUSED_ROWS;
+        return refusal::UNUSED_ROW_NOT_ZERO;
     }
     0
 }

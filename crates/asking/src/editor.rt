@@ -32,7 +32,7 @@ pub fn find_editor(image: &[u8], list: Item) -> Answer
         }
     };
     if !is_list(image, layout, list) {
-        return Answer::refused(refusal::LIST);
+        return Answer::refused(refusal::NOT_A_LIST);
     }
     let editor = some_editor(image, layout, list);
     if editor == 0 {

@@ -37,7 +37,7 @@ pub fn shown_rows(image: &[u8], list: Item) -> ListRows
         }
     };
     if !is_list(image, layout, list) {
-        return ListRows::Refused(refusal::LIST);
+        return ListRows::Refused(refusal::NOT_A_LIST);
     }
     let first = run_start(image, layout, list);
     let end = run_end(image, layout, list, first);

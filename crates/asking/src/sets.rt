@@ -39,7 +39,7 @@ pub fn operation_set(image: &[u8], subject: Subject, role: Role) -> Answer
         }
     };
     if !subject_used(image, layout, subject) {
-        return Answer::refused(refusal::CALLER);
+        return Answer::refused(refusal::UNKNOWN_CALLER);
     }
     Answer::done(operations(image, layout, subject, role))
 }
@@ -57,10 +57,10 @@ pub fn permission_set(image: &[u8], subject: Subject, role: Role, item: Item) ->
         }
     };
     if !subject_used(image, layout, subject) {
-        return Answer::refused(refusal::CALLER);
+        return Answer::refused(refusal::UNKNOWN_CALLER);
     }
     if !item_used(image, layout, item) {
-        return Answer::refused(refusal::ITEM);
+        return Answer::refused(refusal::UNKNOWN_ITEM);
     }
     Answer::done(permissions(image, layout, subject, role, item))
 }

@@ -50,14 +50,14 @@ pub fn set_grant_storing(
         return Storing::Refused(number);
     }
     if !in_tree(image, layout, caller, domain) {
-        return Storing::Refused(refusal::TREE);
+        return Storing::Refused(refusal::OUTSIDE_TREE);
     }
     let index = grant_index(image, layout, receiver, role);
     if !may_set(image, layout, index, caller) {
-        return Storing::Refused(refusal::NOT_YOURS);
+        return Storing::Refused(refusal::NOT_THE_GRANTOR);
     }
     if !has_row_for(layout, index) {
-        return Storing::Refused(refusal::FULL);
+        return Storing::Refused(refusal::TABLE_FULL);
     }
     Storing::At(index)
 }
@@ -76,16 +76,16 @@ fn named_refusal(
         ⌜ r ≡ firstNo (take 4 (questions t (setGrant (caller .0) (receiver .0) (role .0) (domain .0) privileges))) ⌝ }
 {
     if !subject_used(image, layout, caller) {
-        return refusal::CALLER;
+        return refusal::UNKNOWN_CALLER;
     }
     if !subject_used(image, layout, receiver) {
-        return refusal::SUBJECT;
+        return refusal::UNKNOWN_SUBJECT;
     }
     if !subject_used(image, layout, domain) {
-        return refusal::SUBJECT;
+        return refusal::UNKNOWN_SUBJECT;
     }
     if role.0 == 0 {
-        return refusal::RANGE;
+        return refusal::OUT_OF_RANGE;
     }
     0
 }
@@ -105,20 +105,20 @@ pub fn remove_grant_removing(
         ⌜ removingNumber r ≡ firstNo (questions t (removeGrant (caller .0) (receiver .0) (role .0))) ⌝ }
 {
     if !subject_used(image, layout, caller) {
-        return Removing::Refused(refusal::CALLER);
+        return Removing::Refused(refusal::UNKNOWN_CALLER);
     }
     if !subject_used(image, layout, receiver) {
-        return Removing::Refused(refusal::SUBJECT);
+        return Removing::Refused(refusal::UNKNOWN_SUBJECT);
     }
     if role.0 == 0 {
-        return Removing::Refused(refusal::RANGE);
+        return Removing::Refused(refusal::OUT_OF_RANGE);
     }
     let index = grant_index(image, layout, receiver, role);
     let RowIndex::Existing(n) = index else {
-        return Removing::Refused(refusal::NO_ROW);
+        return Removing::Refused(refusal::NO_SUCH_ROW);
     };
     if !may_remove(image, layout, n, caller) {
-        return Removing::Refused(refusal::NOT_YOURS);
+        return Removing::Refused(refusal::NOT_THE_GRANTOR);
     }
     Removing::Row(n)
 }

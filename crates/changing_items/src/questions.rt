@@ -40,10 +40,10 @@ pub fn create_refusal(
         needed_position(CREATE_ITEM),
         operations(image, layout, caller, role),
     ) {
-        return refusal::RIGHT;
+        return refusal::NOT_PERMITTED;
     }
     if !item_free(layout) {
-        return refusal::FULL;
+        return refusal::TABLE_FULL;
     }
     0
 }
@@ -61,13 +61,13 @@ fn named_refusal(
         ⌜ r ≡ firstNo (take 3 (questions t (createItem (caller .0) (role .0) (list .0) flags))) ⌝ }
 {
     if !subject_used(image, layout, caller) {
-        return refusal::CALLER;
+        return refusal::UNKNOWN_CALLER;
     }
     if !none_or_list(image, layout, list) {
-        return refusal::LIST;
+        return refusal::NOT_A_LIST;
     }
     if ItemRow::FLAGS <= flags {
-        return refusal::RANGE;
+        return refusal::OUT_OF_RANGE;
     }
     0
 }
@@ -76,16 +76,16 @@ pub fn bind_refusal(image: &[u8], layout: Layout, caller: Subject, item: Item, l
     ensures { λ r. ⌜ r ≡ firstNo (questions (tablesAt layout (image .entry)) (bind (caller .0) (item .0) (list .0))) ⌝ }
 {
     if !subject_used(image, layout, caller) {
-        return refusal::CALLER;
+        return refusal::UNKNOWN_CALLER;
     }
     if !item_used(image, layout, item) {
-        return refusal::ITEM;
+        return refusal::UNKNOWN_ITEM;
     }
     if !none_or_list(image, layout, list) {
-        return refusal::LIST;
+        return refusal::NOT_A_LIST;
     }
     if !may_bind(image, layout, caller, item) {
-        return refusal::RIGHT;
+        return refusal::NOT_PERMITTED;
     }
     0
 }
@@ -114,16 +114,16 @@ pub fn hand_over_refusal(
     ensures { λ r. ⌜ r ≡ firstNo (questions (tablesAt layout (image .entry)) (handOver (caller .0) (item .0) (owner .0))) ⌝ }
 {
     if !subject_used(image, layout, caller) {
-        return refusal::CALLER;
+        return refusal::UNKNOWN_CALLER;
     }
     if !subject_used(image, layout, owner) {
-        return refusal::SUBJECT;
+        return refusal::UNKNOWN_SUBJECT;
     }
     if !item_used(image, layout, item) {
-        return refusal::ITEM;
+        return refusal::UNKNOWN_ITEM;
     }
     if caller.0 != CUSTODIAN {
-        return refusal::RIGHT;
+        return refusal::NOT_PERMITTED;
     }
     0
 }

@@ -57,11 +57,11 @@ pub fn set_line_storing(
         needed_position(SET_LINE),
         permissions(image, layout, caller, role, list),
     ) {
-        return Storing::Refused(refusal::RIGHT);
+        return Storing::Refused(refusal::NOT_PERMITTED);
     }
     let index = line_index(image, layout, list, kind, subject);
     if !has_row_for(layout, index) {
-        return Storing::Refused(refusal::FULL);
+        return Storing::Refused(refusal::TABLE_FULL);
     }
     Storing::At(index)
 }
@@ -90,12 +90,12 @@ pub fn remove_line_removing(
         needed_position(REMOVE_LINE),
         permissions(image, layout, caller, role, list),
     ) {
-        return Removing::Refused(refusal::RIGHT);
+        return Removing::Refused(refusal::NOT_PERMITTED);
     }
     let index = line_index(image, layout, list, kind, subject);
     match index {
         RowIndex::Existing(n) => Removing::Row(n),
-        RowIndex::New(_) => Removing::Refused(refusal::NO_ROW),
+        RowIndex::New(_) => Removing::Refused(refusal::NO_SUCH_ROW),
     }
 }
 
@@ -113,16 +113,16 @@ fn named_refusal(
         ⌜ r ≡ firstNo (take 4 (questions t (removeLine (caller .0) 0 (list .0) kind (subject .0)))) ⌝ }
 {
     if !subject_used(image, layout, caller) {
-        return refusal::CALLER;
+        return refusal::UNKNOWN_CALLER;
     }
     if !subject_used(image, layout, subject) {
-        return refusal::SUBJECT;
+        return refusal::UNKNOWN_SUBJECT;
     }
     if !is_list(image, layout, list) {
-        return refusal::LIST;
+        return refusal::NOT_A_LIST;
     }
     if !kind_fits(kind, subject) {
-        return refusal::RANGE;
+        return refusal::OUT_OF_RANGE;
     }
     0
 }

@@ -41,13 +41,13 @@ pub fn define_refusal(
         needed_position(DEFINE_SUBJECT),
         operations_under(image, layout, caller, grant),
     ) {
-        return refusal::RIGHT;
+        return refusal::NOT_PERMITTED;
     }
     if !in_reach(image, layout, caller, grant, parent) {
-        return refusal::TREE;
+        return refusal::OUTSIDE_TREE;
     }
     if !subject_free(layout) {
-        return refusal::FULL;
+        return refusal::TABLE_FULL;
     }
     0
 }
@@ -65,10 +65,10 @@ fn named_refusal(
         ⌜ r ≡ firstNo (take 2 (questions t (defineSubject (caller .0) (role .0) (parent .0) privileges))) ⌝ }
 {
     if !subject_used(image, layout, caller) {
-        return refusal::CALLER;
+        return refusal::UNKNOWN_CALLER;
     }
     if !subject_used(image, layout, parent) {
-        return refusal::SUBJECT;
+        return refusal::UNKNOWN_SUBJECT;
     }
     0
 }

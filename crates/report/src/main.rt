@@ -14,12 +14,22 @@ use reporting::lines_page;
 // One byte more than the longest image, so that a longer input is seen to be too long.
 const INPUT: usize = 65537;
 
-// An input that cannot be read any further counts as ended: `read_full` answers the same for both.
 fn main() {
     let mut input = [0u8; INPUT];
     let length = io::read_full(0, &mut input);
+    if length < INPUT && !input_ended() {
+        io::write_all(2, b"The image on standard input cannot be read.\n");
+        return;
+    }
     let mut page = [0u8; PAGE];
     print_report(&input[..length], &mut page);
+}
+
+// `read_full` stops in the same way where the input ends and where it cannot be read. One more read sets them apart: only
+// at the end it answers 0.
+fn input_ended() -> bool {
+    let mut next = [0u8; 1];
+    libc::read(0, &mut next) == 0
 }
 
 fn print_report(image: &[u8], page: &mut [u8; PAGE]) {

@@ -31,8 +31,7 @@ pub fn print_questions(image: &[u8]) {
     ask_operations(image, 4, 7);
     end_line();
     print_lines(image, 1);
-    io::write_all(1, b"find_editor list 1");
-    print_answer(find_editor(image, Item(1)));
+    ask_editor(image, 1);
     end_line();
 }
 
@@ -85,6 +84,11 @@ pub fn ask_operations(image: &[u8], subject: u32, role: u32) {
     print_number(b"operation_set subject ", subject);
     print_number(b" role ", role);
     print_answer(operation_set(image, Subject(subject), Role(role)));
+}
+
+pub fn ask_editor(image: &[u8], list: u32) {
+    print_number(b"find_editor list ", list);
+    print_answer(find_editor(image, Item(list)));
 }
 
 // The rows of a list: how many, at which offset they start, and how many bytes their slice of the image has.
