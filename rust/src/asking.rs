@@ -16,7 +16,9 @@ pub fn check(image: &[u8]) -> Result<(), Refusal> {
 ///
 /// A role that is not granted to the subject adds nothing and is no refusal.
 pub fn operation_set(image: &[u8], subject: Subject, role: Role) -> Result<Privileges, Refusal> {
-    ffi::operation_set(image, subject, role).result()
+    ffi::operation_set(image, subject, role)
+        .result()
+        .map(Privileges)
 }
 
 /// The permission set: what a subject under a role may do with an item.
@@ -28,7 +30,9 @@ pub fn permission_set(
     role: Role,
     item: Item,
 ) -> Result<Privileges, Refusal> {
-    ffi::permission_set(image, subject, role, item).result()
+    ffi::permission_set(image, subject, role, item)
+        .result()
+        .map(Privileges)
 }
 
 /// How many lines a list has.

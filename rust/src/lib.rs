@@ -18,13 +18,12 @@
 //! the custodian's row, and free rows:
 //!
 //! ```
-//! use dacm::privileges::{ALL, CREATE_ITEMS, DEFINE_SUBJECTS, READ};
-//! use dacm::{Flags, Item, Kind, Refusal, Role, Subject};
+//! use dacm::{Flags, Item, Kind, Privileges, Refusal, Role, Subject};
 //!
 //! # fn main() -> Result<(), Refusal> {
 //! // The custodian, and free rows for 2 more subjects, 1 grant, 2 lines and 2 items.
 //! let header = [1, 36, 0, 72, 0, 92, 0, 124, 148];
-//! let row = [0, ALL, 0]; // the custodian's parent, privileges and creator
+//! let row = [0, u32::MAX, 0]; // the custodian's parent, privileges and creator
 //! let fields = header.into_iter().chain(row);
 //! let mut image: Vec<u8> = fields.flat_map(u32::to_le_bytes).collect();
 //! image.resize(148, 0);
@@ -33,21 +32,21 @@
 //! // The custodian defines an engineer. She defines a technician below her, who gets only what she
 //! // has herself.
 //! let (custodian, no_role) = (Subject::CUSTODIAN, Role::NONE);
-//! let hers = READ | CREATE_ITEMS | DEFINE_SUBJECTS;
+//! let hers = Privileges::READ | Privileges::CREATE_ITEMS | Privileges::DEFINE_SUBJECTS;
 //! let engineer = dacm::define_subject(&mut image, custodian, no_role, custodian, hers)?;
-//! let technician = dacm::define_subject(&mut image, engineer, no_role, engineer, ALL)?;
+//! let technician = dacm::define_subject(&mut image, engineer, no_role, engineer, Privileges::ALL)?;
 //! assert_eq!(dacm::operation_set(&image, technician, no_role)?, hers);
 //!
 //! // A list on which whoever is below the engineer may read, and a document of hers under it.
 //! let list = dacm::create_item(&mut image, custodian, no_role, Item::NONE, Flags::IS_LIST)?;
-//! dacm::set_line(&mut image, custodian, no_role, list, Kind::GROUP, engineer, READ)?;
+//! dacm::set_line(&mut image, custodian, no_role, list, Kind::GROUP, engineer, Privileges::READ)?;
 //! let document = dacm::create_item(&mut image, engineer, no_role, list, Flags::NONE)?;
-//! assert_eq!(dacm::permission_set(&image, technician, no_role, document)?, READ);
+//! assert_eq!(dacm::permission_set(&image, technician, no_role, document)?, Privileges::READ);
 //!
 //! // The technician may not edit the list, and a refused call changes nothing.
 //! let before = image.clone();
-//! let tried = dacm::set_line(&mut image, technician, no_role, list, Kind::ITSELF, technician, ALL);
-//! assert_eq!(tried, Err(Refusal::Right));
+//! let tried = dacm::set_line(&mut image, technician, no_role, list, Kind::ITSELF, technician, Privileges::ALL);
+//! assert_eq!(tried, Err(Refusal::NotPermitted));
 //! assert_eq!(image, before);
 //!
 //! // The lines of a list are a slice of the image itself: list, kind, subject, privileges.
@@ -57,16 +56,21 @@
 //! # }
 //! ```
 
+#![no_std]
 #![warn(missing_docs)]
 #![deny(unsafe_code)]
 
+#[cfg(any(feature = "std", test))]
+extern crate std;
+
 mod asking;
+mod bits;
 mod changing;
 #[allow(unsafe_code)]
 mod ffi;
 mod fields;
 mod numbers;
-pub mod privileges;
+mod privileges;
 mod refusal;
 
 pub use asking::{check, find_editor, lines_of, list_count, operation_set, permission_set};

@@ -47,7 +47,7 @@ fn compile(source: &Path, name: &str) -> PathBuf {
         .arg("-I")
         .arg(here().join("../include"))
         .arg(source)
-        .arg(here().join("../target/staticlib/libdacm.a"))
+        .arg(env!("DACM_ARCHIVE"))
         .arg("-o")
         .arg(&program)
         .output()
