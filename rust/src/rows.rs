@@ -26,6 +26,11 @@ impl<'a, R: Row> Rows<'a, R> {
         }
     }
 
+    /// The first of these rows, as many as the count says. There are no fewer.
+    pub(crate) fn first(self, count: usize) -> Rows<'a, R> {
+        Rows::new(&self.bytes[..count * R::BYTES])
+    }
+
     /// How many rows there are.
     pub fn len(&self) -> usize {
         self.bytes.len() / R::BYTES

@@ -1,6 +1,6 @@
 use crate::bytes::{read_fields, HEADER_BYTES};
 use crate::{
-    check, Capacities, GrantRow, Item, ItemRow, LineRow, Refusal, Row, Rows, Subject, SubjectRow,
+    check, Capacities, GrantRow, Item, ItemRow, LineRow, Refusal, Rows, Subject, SubjectRow,
 };
 use core::fmt;
 
@@ -44,27 +44,26 @@ impl<'a> Tables<'a> {
 
     /// The tables as the header of an accepted image lays them out.
     fn of_accepted(image: &'a [u8]) -> Tables<'a> {
-        let header = read_fields(&image[..HEADER_BYTES]);
+        let header = read_fields(&image[..HEADER_BYTES]).expect("a header has nine fields");
         let [subjects, subjects_at, grants, grants_at, lines, lines_at, items, items_at, total] =
-            header
-                .expect("a header has nine fields")
-                .map(|field| field as usize);
-        let subjects_bytes = &image[subjects_at..grants_at];
-        let grants_bytes = &image[grants_at..lines_at];
-        let lines_bytes = &image[lines_at..items_at];
-        let items_bytes = &image[items_at..total];
+            header.map(|field| field as usize);
+        // Each table up to its capacity, with its free rows.
+        let all_subjects = Rows::new(&image[subjects_at..grants_at]);
+        let all_grants = Rows::new(&image[grants_at..lines_at]);
+        let all_lines = Rows::new(&image[lines_at..items_at]);
+        let all_items = Rows::new(&image[items_at..total]);
         Tables {
             image,
             capacities: Capacities {
-                subjects: subjects_bytes.len() / SubjectRow::BYTES,
-                grants: grants_bytes.len() / GrantRow::BYTES,
-                lines: lines_bytes.len() / LineRow::BYTES,
-                items: items_bytes.len() / ItemRow::BYTES,
+                subjects: all_subjects.len(),
+                grants: all_grants.len(),
+                lines: all_lines.len(),
+                items: all_items.len(),
             },
-            subjects: first_rows(subjects_bytes, subjects),
-            grants: first_rows(grants_bytes, grants),
-            lines: first_rows(lines_bytes, lines),
-            items: first_rows(items_bytes, items),
+            subjects: all_subjects.first(subjects),
+            grants: all_grants.first(grants),
+            lines: all_lines.first(lines),
+            items: all_items.first(items),
         }
     }
 
@@ -111,11 +110,6 @@ impl<'a> Tables<'a> {
     pub fn lines_of(&self, list: Item) -> Result<Rows<'a, LineRow>, Refusal> {
         crate::lines_of(self.image, list).map(Rows::new)
     }
-}
-
-/// The first rows of a table's bytes: those in use.
-fn first_rows<R: Row>(bytes: &[u8], used: usize) -> Rows<'_, R> {
-    Rows::new(&bytes[..used * R::BYTES])
 }
 
 /// The capacities and the rows in use, not the bytes of the image.

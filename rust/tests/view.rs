@@ -28,8 +28,13 @@ impl Numbers<3> for SubjectRow {
 
 impl Numbers<5> for GrantRow {
     fn numbers(&self) -> [u32; 5] {
-        let [receiver, grantor, domain] = [self.receiver, self.grantor, self.domain].map(|s| s.0);
-        [receiver, self.role.0, grantor, domain, self.privileges.0]
+        [
+            self.receiver.0,
+            self.role.0,
+            self.grantor.0,
+            self.domain.0,
+            self.privileges.0,
+        ]
     }
 }
 
