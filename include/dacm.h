@@ -25,6 +25,12 @@
 extern "C" {
 #endif
 
+/* The version of this header. */
+#define DACM_VERSION_MAJOR 0
+#define DACM_VERSION_MINOR 1
+#define DACM_VERSION_PATCH 0
+#define DACM_VERSION "0.1.0"
+
 /* The stack that a call may need. */
 #define DACM_STACK_BYTES 524288
 
@@ -35,6 +41,27 @@ typedef struct { uint32_t number; } dacm_item;    /* items are numbered from 1; 
 
 /* What a call answers: number 0 and its result, or the refusal and result 0. A call that names no result has 0. */
 typedef struct { uint32_t number; uint32_t result; } dacm_answer;
+
+/* The numbers that a call answers. A newer archive may have more. */
+#define DACM_DONE                UINT32_C(0)  /* no refusal: the call did its job */
+#define DACM_BAD_LENGTH          UINT32_C(1)  /* the image is shorter than 36 or longer than 65,536 bytes */
+#define DACM_BAD_LAYOUT          UINT32_C(2)  /* the header does not fit the image */
+#define DACM_BAD_SUBJECT_ROW     UINT32_C(3)  /* a subject row breaks a rule */
+#define DACM_BAD_ITEM_ROW        UINT32_C(4)  /* an item row breaks a rule */
+#define DACM_BAD_LINE_ROW        UINT32_C(5)  /* a line row breaks a rule, or the lines are not sorted */
+#define DACM_BAD_GRANT_ROW       UINT32_C(6)  /* a grant row breaks a rule, or the grants are not sorted */
+#define DACM_UNUSED_ROW_NOT_ZERO UINT32_C(7)  /* a free row is not all zeros */
+#define DACM_UNKNOWN_CALLER      UINT32_C(10) /* the caller or asker is not in use */
+#define DACM_UNKNOWN_SUBJECT     UINT32_C(11) /* another subject is not in use */
+#define DACM_UNKNOWN_ITEM        UINT32_C(12) /* the item is not in use */
+#define DACM_NOT_A_LIST          UINT32_C(13) /* the list is not in use, or is no access list */
+#define DACM_OUT_OF_RANGE        UINT32_C(14) /* the role, kind, subject or flags are out of range */
+#define DACM_NOT_PERMITTED       UINT32_C(15) /* the caller may not do this */
+#define DACM_OUTSIDE_TREE        UINT32_C(16) /* the parent or domain is outside the tree that it must be in */
+#define DACM_NO_SUCH_ROW         UINT32_C(17) /* there is no such row to remove */
+#define DACM_NOT_THE_GRANTOR     UINT32_C(18) /* the grant is another grantor's */
+#define DACM_TABLE_FULL          UINT32_C(19) /* no row is free */
+#define DACM_NO_EDITOR           UINT32_C(20) /* nobody but the custodian may edit the list */
 
 /* Privileges: bit n of a set is position n. Positions 7 to 31 are the host's own. */
 #define DACM_READ            UINT32_C(0x01)

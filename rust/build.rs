@@ -1,18 +1,34 @@
-//! Links the proved static library, which is built in the folder above.
+//! Links the proved static library: from the folder that DACM_LIB_DIR names, or otherwise from the
+//! folder in which `make archive` builds it.
 
 use std::env;
-use std::path::Path;
+use std::path::{Path, PathBuf};
 use std::process::exit;
 
+const FOLDER_VARIABLE: &str = "DACM_LIB_DIR";
+
 fn main() {
-    let here = env::var("CARGO_MANIFEST_DIR").expect("cargo names the package's folder");
-    let folder = Path::new(&here).join("../target/staticlib");
+    println!("cargo:rerun-if-env-changed={FOLDER_VARIABLE}");
+    let folder = archive_folder();
     let archive = folder.join("libdacm.a");
     println!("cargo:rerun-if-changed={}", archive.display());
     if !archive.is_file() {
-        eprintln!("The archive is missing: `make archive` in the folder above makes it.");
+        eprintln!(
+            "There is no libdacm.a in {}. Build it with `make archive` in the folder above this \
+             crate, or set {FOLDER_VARIABLE} to the folder that has it.",
+            folder.display()
+        );
         exit(1);
     }
     println!("cargo:rustc-link-search=native={}", folder.display());
     println!("cargo:rustc-link-lib=static=dacm");
+    // The tests link their C programs with the same archive.
+    println!("cargo:rustc-env=DACM_ARCHIVE={}", archive.display());
+}
+
+/// A folder that is not named in full is taken from this crate's folder. An empty name is none.
+fn archive_folder() -> PathBuf {
+    let here = env::var_os("CARGO_MANIFEST_DIR").expect("cargo names the package's folder");
+    let named = env::var_os(FOLDER_VARIABLE).filter(|folder| !folder.is_empty());
+    Path::new(&here).join(named.unwrap_or("../target/staticlib".into()))
 }

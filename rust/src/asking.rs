@@ -1,9 +1,6 @@
 //! The calls that ask. None of them changes the image.
 
-use crate::{ffi, Item, Privileges, Refusal, Role, Subject};
-
-/// How many bytes a row of the table of lines has.
-const LINE_BYTES: usize = 16;
+use crate::{ffi, Item, LineRow, Privileges, Refusal, Role, Row, Subject};
 
 /// Is this an image that the other calls work on?
 ///
@@ -16,7 +13,9 @@ pub fn check(image: &[u8]) -> Result<(), Refusal> {
 ///
 /// A role that is not granted to the subject adds nothing and is no refusal.
 pub fn operation_set(image: &[u8], subject: Subject, role: Role) -> Result<Privileges, Refusal> {
-    ffi::operation_set(image, subject, role).result()
+    ffi::operation_set(image, subject, role)
+        .result()
+        .map(Privileges)
 }
 
 /// The permission set: what a subject under a role may do with an item.
@@ -28,7 +27,9 @@ pub fn permission_set(
     role: Role,
     item: Item,
 ) -> Result<Privileges, Refusal> {
-    ffi::permission_set(image, subject, role, item).result()
+    ffi::permission_set(image, subject, role, item)
+        .result()
+        .map(Privileges)
 }
 
 /// How many lines a list has.
@@ -39,9 +40,10 @@ pub fn list_count(image: &[u8], list: Item) -> Result<u32, Refusal> {
 /// The lines of a list: the slice of the image that holds them, not a copy.
 ///
 /// A line is 16 bytes, four fields of 32 bits, little-endian: list, kind, subject, privileges. For a
-/// list without lines it is the empty slice at offset 0.
+/// list without lines it is the empty slice at offset 0. [`Tables::lines_of`](crate::Tables::lines_of)
+/// has the lines as rows.
 pub fn lines_of(image: &[u8], list: Item) -> Result<&[u8], Refusal> {
-    let bytes = list_count(image, list)? as usize * LINE_BYTES;
+    let bytes = list_count(image, list)? as usize * LineRow::BYTES;
     let start = ffi::list_start(image, list);
     Ok(&image[start..start + bytes])
 }

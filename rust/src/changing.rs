@@ -4,10 +4,10 @@ use crate::{ffi, Flags, Item, Kind, Privileges, Refusal, Role, Subject};
 
 /// Defines a subject below a parent and answers its number.
 ///
-/// The caller needs [`DEFINE_SUBJECTS`](crate::privileges::DEFINE_SUBJECTS) in its operation set
-/// under the role, and the parent must be in the caller's tree or in the tree of the subject that
-/// granted the role. Of the given privileges the new subject gets those that the caller's own row
-/// has too; what the caller has only by a role is not passed on.
+/// The caller needs [`DEFINE_SUBJECTS`](Privileges::DEFINE_SUBJECTS) in its operation set under the
+/// role, and the parent must be in the caller's tree or in the tree of the subject that granted the
+/// role. Of the given privileges the new subject gets those that the caller's own row has too; what
+/// the caller has only by a role is not passed on.
 pub fn define_subject(
     image: &mut [u8],
     caller: Subject,
@@ -48,8 +48,8 @@ pub fn remove_grant(
 
 /// Sets a line of a list. The list's line of the same kind for the same subject is overwritten.
 ///
-/// The caller needs [`EDIT_LIST`](crate::privileges::EDIT_LIST) in its permission set on the list
-/// under the role.
+/// The caller needs [`EDIT_LIST`](Privileges::EDIT_LIST) in its permission set on the list under the
+/// role.
 pub fn set_line(
     image: &mut [u8],
     caller: Subject,
@@ -64,8 +64,8 @@ pub fn set_line(
 
 /// Removes a line of a list.
 ///
-/// The caller needs [`EDIT_LIST`](crate::privileges::EDIT_LIST) in its permission set on the list
-/// under the role.
+/// The caller needs [`EDIT_LIST`](Privileges::EDIT_LIST) in its permission set on the list under the
+/// role.
 pub fn remove_line(
     image: &mut [u8],
     caller: Subject,
@@ -80,8 +80,7 @@ pub fn remove_line(
 /// Creates an item that the caller owns, governed by a list or by [`Item::NONE`], and answers its
 /// number.
 ///
-/// The caller needs [`CREATE_ITEMS`](crate::privileges::CREATE_ITEMS) in its operation set under
-/// the role.
+/// The caller needs [`CREATE_ITEMS`](Privileges::CREATE_ITEMS) in its operation set under the role.
 pub fn create_item(
     image: &mut [u8],
     caller: Subject,

@@ -15,8 +15,7 @@ impl Answer {
     pub(crate) fn result(self) -> Result<u32, Refusal> {
         match self.number {
             0 => Ok(self.result),
-            number => Err(Refusal::from_number(number)
-                .expect("the archive refuses only with numbers that this crate names")),
+            number => Err(Refusal::from_number(number)),
         }
     }
 

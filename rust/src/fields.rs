@@ -1,7 +1,9 @@
 //! Fields of rows with few valid values. They are numbers and not enums, because the calls
-//! themselves refuse a value out of range, with [`Refusal::Range`](crate::Refusal::Range).
+//! themselves refuse a value out of range, with
+//! [`Refusal::OutOfRange`](crate::Refusal::OutOfRange).
 
-use std::ops::BitOr;
+use crate::bits::{bit_set, write_names};
+use core::fmt;
 
 /// Whom a line of an access list is for.
 #[repr(transparent)]
@@ -19,9 +21,33 @@ impl Kind {
     pub const EVERYONE: Kind = Kind(3);
 }
 
+/// ```
+/// assert_eq!(dacm::Kind::EVERYONE.to_string(), "everyone");
+/// assert_eq!(dacm::Kind(7).to_string(), "kind 7");
+/// ```
+impl fmt::Display for Kind {
+    fn fmt(&self, out: &mut fmt::Formatter<'_>) -> fmt::Result {
+        match *self {
+            Kind::ITSELF => out.write_str("itself"),
+            Kind::GROUP => out.write_str("group"),
+            Kind::OWNER => out.write_str("owner"),
+            Kind::EVERYONE => out.write_str("everyone"),
+            Kind(other) => write!(out, "kind {other}"),
+        }
+    }
+}
+
 /// The flags of an item.
+///
+/// ```
+/// use dacm::Flags;
+///
+/// let flags = Flags::IS_LIST | Flags::LOCKED;
+/// assert!(flags.contains(Flags::IS_LIST));
+/// assert_eq!(flags.to_string(), "list, locked");
+/// ```
 #[repr(transparent)]
-#[derive(Clone, Copy, Debug, PartialEq, Eq, PartialOrd, Ord, Hash)]
+#[derive(Clone, Copy, Debug, Default, PartialEq, Eq, PartialOrd, Ord, Hash)]
 pub struct Flags(pub u32);
 
 impl Flags {
@@ -33,10 +59,49 @@ impl Flags {
     pub const LOCKED: Flags = Flags(2);
 }
 
-impl BitOr for Flags {
-    type Output = Flags;
+bit_set!(Flags);
 
-    fn bitor(self, other: Flags) -> Flags {
-        Flags(self.0 | other.0)
+/// The names with commas between them, "bit 4" for one that is no flag. Without a flag it is "none".
+impl fmt::Display for Flags {
+    fn fmt(&self, out: &mut fmt::Formatter<'_>) -> fmt::Result {
+        write_names(out, self.0.into(), &["list", "locked"], "bit")
+    }
+}
+
+#[cfg(test)]
+mod tests {
+    use super::{Flags, Kind};
+    use std::string::ToString;
+
+    #[test]
+    fn display_of_kinds() {
+        let names = ["itself", "group", "owner", "everyone", "kind 4"];
+        for (kind, name) in (0..).map(Kind).zip(names) {
+            assert_eq!(kind.to_string(), name);
+        }
+        assert_eq!(Kind(u32::MAX).to_string(), "kind 4294967295");
+    }
+
+    #[test]
+    fn display_of_flags() {
+        let named = [
+            (Flags::NONE, "none"),
+            (Flags::IS_LIST, "list"),
+            (Flags::LOCKED, "locked"),
+            (Flags::IS_LIST | Flags::LOCKED, "list, locked"),
+            (Flags::LOCKED | Flags(1 << 4), "locked, bit 4"),
+            (Flags(1 << 31), "bit 31"),
+        ];
+        for (flags, name) in named {
+            assert_eq!(flags.to_string(), name);
+        }
+    }
+
+    #[test]
+    fn flags_contain_their_parts() {
+        assert!((Flags::IS_LIST | Flags::LOCKED).contains(Flags::LOCKED));
+        assert!(!Flags::IS_LIST.contains(Flags::LOCKED));
+        assert!(Flags::NONE.contains(Flags::NONE));
+        assert!((Flags::LOCKED & !Flags::LOCKED).is_empty());
     }
 }

@@ -12,64 +12,87 @@
 //!
 //! # An image and some calls
 //!
-//! An image is 36 to 65,536 bytes, every field 32 bits, little-endian. Its header has the used rows
-//! and the offset of the subjects (rows of 12 bytes), of the grants (20), of the lines (16) and of
-//! the items (12), and then the total length. Free rows are zero. So an empty library is a header,
-//! the custodian's row, and free rows:
+//! An image is 36 to 65,536 bytes: a header, and then the tables of subjects, grants, lines and
+//! items. Each table has a fixed capacity. Rows in use come first, and free rows are zero.
+//! [`Capacities`] makes an empty image, the calls fill it, and [`Tables`] shows what it holds:
 //!
 //! ```
-//! use dacm::privileges::{ALL, CREATE_ITEMS, DEFINE_SUBJECTS, READ};
-//! use dacm::{Flags, Item, Kind, Refusal, Role, Subject};
+//! use dacm::{Capacities, Flags, Item, Kind, Privileges, Refusal, Role, Subject, Tables};
 //!
 //! # fn main() -> Result<(), Refusal> {
 //! // The custodian, and free rows for 2 more subjects, 1 grant, 2 lines and 2 items.
-//! let header = [1, 36, 0, 72, 0, 92, 0, 124, 148];
-//! let row = [0, ALL, 0]; // the custodian's parent, privileges and creator
-//! let fields = header.into_iter().chain(row);
-//! let mut image: Vec<u8> = fields.flat_map(u32::to_le_bytes).collect();
-//! image.resize(148, 0);
-//! dacm::check(&image)?;
+//! let capacities = Capacities { subjects: 3, grants: 1, lines: 2, items: 2 };
+//! let mut image = capacities.empty_image()?;
 //!
 //! // The custodian defines an engineer. She defines a technician below her, who gets only what she
 //! // has herself.
 //! let (custodian, no_role) = (Subject::CUSTODIAN, Role::NONE);
-//! let hers = READ | CREATE_ITEMS | DEFINE_SUBJECTS;
+//! let hers = Privileges::READ | Privileges::CREATE_ITEMS | Privileges::DEFINE_SUBJECTS;
 //! let engineer = dacm::define_subject(&mut image, custodian, no_role, custodian, hers)?;
-//! let technician = dacm::define_subject(&mut image, engineer, no_role, engineer, ALL)?;
+//! let all = Privileges::ALL;
+//! let technician = dacm::define_subject(&mut image, engineer, no_role, engineer, all)?;
 //! assert_eq!(dacm::operation_set(&image, technician, no_role)?, hers);
 //!
 //! // A list on which whoever is below the engineer may read, and a document of hers under it.
+//! let read = Privileges::READ;
 //! let list = dacm::create_item(&mut image, custodian, no_role, Item::NONE, Flags::IS_LIST)?;
-//! dacm::set_line(&mut image, custodian, no_role, list, Kind::GROUP, engineer, READ)?;
+//! dacm::set_line(&mut image, custodian, no_role, list, Kind::GROUP, engineer, read)?;
 //! let document = dacm::create_item(&mut image, engineer, no_role, list, Flags::NONE)?;
-//! assert_eq!(dacm::permission_set(&image, technician, no_role, document)?, READ);
+//! let set = dacm::permission_set(&image, technician, no_role, document)?;
+//! assert!(set.contains(Privileges::READ));
+//! assert_eq!(set.to_string(), "read");
 //!
 //! // The technician may not edit the list, and a refused call changes nothing.
 //! let before = image.clone();
-//! let tried = dacm::set_line(&mut image, technician, no_role, list, Kind::ITSELF, technician, ALL);
-//! assert_eq!(tried, Err(Refusal::Right));
+//! let tried = dacm::set_line(&mut image, technician, no_role, list, Kind::ITSELF, technician, all);
+//! assert_eq!(tried, Err(Refusal::NotPermitted));
 //! assert_eq!(image, before);
 //!
-//! // The lines of a list are a slice of the image itself: list, kind, subject, privileges.
-//! let lines = dacm::lines_of(&image, list)?;
-//! assert_eq!(lines, [1, 0, 0, 0, 1, 0, 0, 0, 1, 0, 0, 0, 1, 0, 0, 0]);
+//! // The tables are read from the image itself.
+//! let tables = Tables::open(&image)?;
+//! for line in tables.lines_of(list)? {
+//!     println!("{} {}: {}", line.kind, line.subject.0, line.privileges); // group 1: read
+//! }
+//! let owner = tables.item(document).map(|row| row.owner);
+//! assert_eq!(owner, Some(engineer));
 //! # Ok(())
 //! # }
 //! ```
+//!
+//! # Features and the archive
+//!
+//! The feature `std` is on by default. It adds `Capacities::empty_image`, which makes a `Vec`.
+//! Without it the crate needs only `core`; [`Capacities::write_empty_image`] then writes the image
+//! into bytes that the host has.
+//!
+//! The crate links the proved static library `libdacm.a`. Where the environment variable
+//! `DACM_LIB_DIR` names a folder, it is taken from there. Otherwise it is taken from
+//! `target/staticlib` in the folder above the crate, where `make archive` builds it.
 
+#![no_std]
 #![warn(missing_docs)]
 #![deny(unsafe_code)]
 
+#[cfg(any(feature = "std", test))]
+extern crate std;
+
 mod asking;
+mod bits;
+mod bytes;
+mod capacities;
 mod changing;
 #[allow(unsafe_code)]
 mod ffi;
 mod fields;
 mod numbers;
-pub mod privileges;
+mod privileges;
 mod refusal;
+mod row;
+mod rows;
+mod tables;
 
 pub use asking::{check, find_editor, lines_of, list_count, operation_set, permission_set};
+pub use capacities::Capacities;
 pub use changing::{
     bind, create_item, define_subject, hand_over, remove_grant, remove_line, set_grant, set_line,
 };
@@ -77,6 +100,9 @@ pub use fields::{Flags, Kind};
 pub use numbers::{Item, Role, Subject};
 pub use privileges::Privileges;
 pub use refusal::Refusal;
+pub use row::{GrantRow, ItemRow, LineRow, Row, SubjectRow};
+pub use rows::{Rows, RowsIter};
+pub use tables::Tables;
 
 /// The stack that a call may need, on the deepest chain of groups that an image can hold.
 pub const STACK_BYTES: usize = 512 * 1024;

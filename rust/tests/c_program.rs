@@ -1,6 +1,8 @@
 //! The library from C: programs that include its header are compiled, linked with the archive and
-//! run.
+//! run. And the header's names are those of the Rust crate.
 
+use dacm::{Flags, Kind, Privileges, Refusal};
+use std::collections::BTreeMap;
 use std::path::{Path, PathBuf};
 use std::process::Command;
 
@@ -29,6 +31,83 @@ fn the_readme_from_c() {
     );
 }
 
+/// The header names the same numbers as the crate, no fewer and no others.
+#[test]
+fn the_names_of_the_header() {
+    let header = header();
+    let numbers = macros(&header).filter_map(|(name, value)| Some((name.into(), number(value)?)));
+    let refusals = (1..=7).chain(10..=20).map(|number| {
+        let name = format!("{:?}", Refusal::from_number(number));
+        (upper_snake(&name), number)
+    });
+    let others = [
+        ("DONE", 0),
+        ("READ", Privileges::READ.0),
+        ("REPLACE", Privileges::REPLACE.0),
+        ("DISCARD", Privileges::DISCARD.0),
+        ("ANNOTATE", Privileges::ANNOTATE.0),
+        ("CREATE_ITEMS", Privileges::CREATE_ITEMS.0),
+        ("DEFINE_SUBJECTS", Privileges::DEFINE_SUBJECTS.0),
+        ("EDIT_LIST", Privileges::EDIT_LIST.0),
+        ("ALL", Privileges::ALL.0),
+        ("ITSELF", Kind::ITSELF.0),
+        ("GROUP", Kind::GROUP.0),
+        ("OWNER", Kind::OWNER.0),
+        ("EVERYONE", Kind::EVERYONE.0),
+        ("IS_LIST", Flags::IS_LIST.0),
+        ("LOCKED", Flags::LOCKED.0),
+    ];
+    let others = others.map(|(name, number)| (name.to_string(), number));
+    let in_header: BTreeMap<String, u32> = numbers.collect();
+    let in_crate: BTreeMap<String, u32> = refusals.chain(others).collect();
+    assert_eq!(in_header, in_crate);
+}
+
+#[test]
+fn the_version_of_the_header() {
+    let header = header();
+    let macros: BTreeMap<&str, &str> = macros(&header).collect();
+    let text = format!("\"{}\"", env!("CARGO_PKG_VERSION"));
+    assert_eq!(macros["VERSION"], text);
+    assert_eq!(macros["VERSION_MAJOR"], env!("CARGO_PKG_VERSION_MAJOR"));
+    assert_eq!(macros["VERSION_MINOR"], env!("CARGO_PKG_VERSION_MINOR"));
+    assert_eq!(macros["VERSION_PATCH"], env!("CARGO_PKG_VERSION_PATCH"));
+}
+
+fn header() -> String {
+    std::fs::read_to_string(here().join("../include/dacm.h")).expect("there is a header")
+}
+
+/// The macros of the header that have a value, without the prefix of their names.
+fn macros(header: &str) -> impl Iterator<Item = (&str, &str)> {
+    header.lines().filter_map(|line| {
+        let (name, rest) = line.strip_prefix("#define DACM_")?.split_once(' ')?;
+        Some((name, rest.split_whitespace().next()?))
+    })
+}
+
+/// The number of a value such as `UINT32_C(20)` or `UINT32_C(0x40)`.
+fn number(value: &str) -> Option<u32> {
+    let digits = value.strip_prefix("UINT32_C(")?.strip_suffix(')')?;
+    let number = match digits.strip_prefix("0x") {
+        Some(digits) => u32::from_str_radix(digits, 16),
+        None => digits.parse(),
+    };
+    Some(number.unwrap_or_else(|_| panic!("{value} is no number of 32 bits")))
+}
+
+/// `NOT_A_LIST` for `NotAList`.
+fn upper_snake(name: &str) -> String {
+    let mut snake = String::new();
+    for letter in name.chars() {
+        if letter.is_uppercase() && !snake.is_empty() {
+            snake.push('_');
+        }
+        snake.push(letter.to_ascii_uppercase());
+    }
+    snake
+}
+
 /// The first fenced block of a language.
 fn block<'a>(text: &'a str, language: &str) -> &'a str {
     let (_, rest) = text
@@ -47,7 +126,7 @@ fn compile(source: &Path, name: &str) -> PathBuf {
         .arg("-I")
         .arg(here().join("../include"))
         .arg(source)
-        .arg(here().join("../target/staticlib/libdacm.a"))
+        .arg(env!("DACM_ARCHIVE"))
         .arg("-o")
         .arg(&program)
         .output()

@@ -4,14 +4,16 @@
 mod support;
 mod twin;
 
-use dacm::privileges::{ALL, EDIT_LIST, READ};
-use dacm::{Item, Kind, Refusal, Role, Subject, STACK_BYTES};
+use dacm::{Item, Kind, Privileges, Refusal, Role, Subject, STACK_BYTES};
 use std::thread;
 use support::tables::{Table, Tables};
 
 const ITSELF: u32 = 0;
 const GROUP: u32 = 1;
 const IS_LIST: u32 = 1;
+const ALL: u32 = Privileges::ALL.0;
+const READ: u32 = Privileges::READ.0;
+const EDIT_LIST: u32 = Privileges::EDIT_LIST.0;
 const LONGEST: usize = 65_536;
 const SUBJECT_BYTES: usize = 12;
 
@@ -52,10 +54,11 @@ fn on_promised_stack<T: Send + 'static>(work: impl FnOnce() -> T + Send + 'stati
 /// What the calls that search groups answer for the deepest subject, under no role.
 fn answers(mut image: Vec<u8>, deepest: Subject) -> [Result<u32, Refusal>; 4] {
     let list = Item(1);
-    let set = dacm::permission_set(&image, deepest, Role::NONE, list);
+    let set = dacm::permission_set(&image, deepest, Role::NONE, list).map(|set| set.0);
     let editor = dacm::find_editor(&image, list).map(|subject| subject.0);
     let (own, none, other) = (Kind::ITSELF, Role::NONE, Subject(1));
-    let line = dacm::set_line(&mut image, deepest, none, list, own, other, READ).map(|()| 0);
+    let read = Privileges::READ;
+    let line = dacm::set_line(&mut image, deepest, none, list, own, other, read).map(|()| 0);
     let gone = dacm::remove_line(&mut image, deepest, none, list, own, other).map(|()| 0);
     [set, editor, line, gone]
 }
@@ -71,7 +74,7 @@ fn no_group_line_at_all() {
     );
     let image = tables.image();
     let answers = on_promised_stack(move || answers(image, deepest));
-    let refused = Err(Refusal::Right);
+    let refused = Err(Refusal::NotPermitted);
     assert_eq!(answers, [Ok(0), Err(Refusal::NoEditor), refused, refused]);
 }
 
@@ -97,7 +100,7 @@ fn under_a_role() {
     let image = tables.image();
     let set =
         on_promised_stack(move || dacm::permission_set(&image, Subject(asker), Role(7), Item(1)));
-    assert_eq!(set, Ok(0));
+    assert_eq!(set, Ok(Privileges::NONE));
 }
 
 /// The header promises the same stack.

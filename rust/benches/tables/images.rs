@@ -3,7 +3,7 @@
 use crate::random::Random;
 use crate::sample::{EVERYONE, GROUP, ITSELF, OWNER};
 use crate::tables::{Table, Tables};
-use dacm::privileges::{ALL, ANNOTATE, DISCARD, EDIT_LIST, READ, REPLACE};
+use dacm::Privileges;
 use std::collections::{BTreeMap, BTreeSet};
 
 const LONGEST: usize = 65_536;
@@ -13,6 +13,12 @@ const ITEM_BYTES: usize = 12;
 const SPARE: usize = 2;
 
 const IS_LIST: u32 = 1;
+const ALL: u32 = Privileges::ALL.0;
+const READ: u32 = Privileges::READ.0;
+const REPLACE: u32 = Privileges::REPLACE.0;
+const DISCARD: u32 = Privileges::DISCARD.0;
+const ANNOTATE: u32 = Privileges::ANNOTATE.0;
+const EDIT_LIST: u32 = Privileges::EDIT_LIST.0;
 const CUSTODIAN: [u32; 3] = [0, ALL, 0];
 
 /// What random lines give at most. It does not include the right to edit a list, so that the search

@@ -54,8 +54,8 @@ static int unchanged(void)
 
 static void accepted(dacm_answer answer, uint32_t result)
 {
-    expect(answer.number == 0 && answer.result == result);
-    expect(dacm_check(image, LENGTH).number == 0);
+    expect(answer.number == DACM_DONE && answer.result == result);
+    expect(dacm_check(image, LENGTH).number == DACM_DONE);
 }
 
 /* A refused call has result 0 and leaves every byte of the fresh sample as it was. */
@@ -79,51 +79,51 @@ static void ask(void)
 {
     fresh();
     accepted(dacm_check(image, LENGTH), 0);
-    refused(dacm_check(image, 35), 1);
-    refused(dacm_check(image, 0), 1);
-    refused(dacm_check(image, LENGTH - 1), 2);
+    refused(dacm_check(image, 35), DACM_BAD_LENGTH);
+    refused(dacm_check(image, 0), DACM_BAD_LENGTH);
+    refused(dacm_check(image, LENGTH - 1), DACM_BAD_LAYOUT);
 
     accepted(dacm_operation_set(image, LENGTH, fourth, seventh), 11);
     accepted(dacm_operation_set(image, LENGTH, custodian, no_role), DACM_ALL);
-    refused(dacm_operation_set(image, LENGTH, nobody, no_role), 10);
+    refused(dacm_operation_set(image, LENGTH, nobody, no_role), DACM_UNKNOWN_CALLER);
 
     accepted(dacm_permission_set(image, LENGTH, fourth, seventh, document), DACM_READ | DACM_REPLACE | DACM_ANNOTATE);
-    refused(dacm_permission_set(image, LENGTH, nobody, no_role, nothing), 10);
-    refused(dacm_permission_set(image, LENGTH, first, no_role, nothing), 12);
+    refused(dacm_permission_set(image, LENGTH, nobody, no_role, nothing), DACM_UNKNOWN_CALLER);
+    refused(dacm_permission_set(image, LENGTH, first, no_role, nothing), DACM_UNKNOWN_ITEM);
 
     accepted(dacm_list_count(image, LENGTH, list), 5);
-    refused(dacm_list_count(image, LENGTH, document), 13);
+    refused(dacm_list_count(image, LENGTH, document), DACM_NOT_A_LIST);
 
     expect(dacm_list_start(image, LENGTH, list) == LINES);
     expect(image[LINES + 5 * LINE_BYTES - LINE_BYTES + 4] == DACM_EVERYONE);
     expect(dacm_list_start(image, LENGTH, document) == 0);
     expect(dacm_list_start(image, 0, list) == 0);
 
-    refused(dacm_find_editor(image, LENGTH, list), 20);
-    refused(dacm_find_editor(image, LENGTH, none), 13);
-    expect(dacm_set_line(image, LENGTH, custodian, no_role, list, DACM_ITSELF, third, DACM_EDIT_LIST).number == 0);
+    refused(dacm_find_editor(image, LENGTH, list), DACM_NO_EDITOR);
+    refused(dacm_find_editor(image, LENGTH, none), DACM_NOT_A_LIST);
+    accepted(dacm_set_line(image, LENGTH, custodian, no_role, list, DACM_ITSELF, third, DACM_EDIT_LIST), 0);
     accepted(dacm_find_editor(image, LENGTH, list), third.number);
 }
 
 static void change_subjects_and_grants(void)
 {
     fresh();
-    refused(dacm_define_subject(image, LENGTH, first, no_role, third, 255), 16);
-    refused(dacm_define_subject(image, LENGTH, fourth, seventh, fourth, DACM_READ), 15);
+    refused(dacm_define_subject(image, LENGTH, first, no_role, third, 255), DACM_OUTSIDE_TREE);
+    refused(dacm_define_subject(image, LENGTH, fourth, seventh, fourth, DACM_READ), DACM_NOT_PERMITTED);
     accepted(dacm_define_subject(image, LENGTH, first, no_role, second, 255), 6);
     expect(dacm_operation_set(image, LENGTH, nobody, no_role).result == 127);
-    expect(dacm_define_subject(image, LENGTH, first, no_role, second, 255).number == 19);
+    expect(dacm_define_subject(image, LENGTH, first, no_role, second, 255).number == DACM_TABLE_FULL);
 
     fresh();
-    refused(dacm_set_grant(image, LENGTH, third, fourth, seventh, third, DACM_READ), 18);
-    refused(dacm_set_grant(image, LENGTH, third, fourth, seventh, second, DACM_READ), 16);
-    refused(dacm_set_grant(image, LENGTH, third, fourth, no_role, third, DACM_READ), 14);
+    refused(dacm_set_grant(image, LENGTH, third, fourth, seventh, third, DACM_READ), DACM_NOT_THE_GRANTOR);
+    refused(dacm_set_grant(image, LENGTH, third, fourth, seventh, second, DACM_READ), DACM_OUTSIDE_TREE);
+    refused(dacm_set_grant(image, LENGTH, third, fourth, no_role, third, DACM_READ), DACM_OUT_OF_RANGE);
     accepted(dacm_set_grant(image, LENGTH, second, fourth, seventh, fifth, DACM_READ), 0);
     expect(dacm_permission_set(image, LENGTH, fourth, seventh, document).result == 9);
 
     fresh();
-    refused(dacm_remove_grant(image, LENGTH, third, fourth, seventh), 18);
-    refused(dacm_remove_grant(image, LENGTH, second, fifth, seventh), 17);
+    refused(dacm_remove_grant(image, LENGTH, third, fourth, seventh), DACM_NOT_THE_GRANTOR);
+    refused(dacm_remove_grant(image, LENGTH, second, fifth, seventh), DACM_NO_SUCH_ROW);
     accepted(dacm_remove_grant(image, LENGTH, second, fourth, seventh), 0);
     expect(dacm_permission_set(image, LENGTH, fourth, seventh, document).result == 9);
 }
@@ -131,17 +131,18 @@ static void change_subjects_and_grants(void)
 static void change_lines(void)
 {
     fresh();
-    refused(dacm_set_line(image, LENGTH, first, no_role, list, DACM_ITSELF, third, DACM_READ), 15);
-    refused(dacm_set_line(image, LENGTH, custodian, no_role, list, DACM_EVERYONE, third, DACM_READ), 14);
+    refused(dacm_set_line(image, LENGTH, first, no_role, list, DACM_ITSELF, third, DACM_READ), DACM_NOT_PERMITTED);
+    refused(dacm_set_line(image, LENGTH, custodian, no_role, list, DACM_EVERYONE, third, DACM_READ), DACM_OUT_OF_RANGE);
     accepted(dacm_set_line(image, LENGTH, custodian, no_role, list, DACM_GROUP, third, DACM_ANNOTATE), 0);
     expect(dacm_list_count(image, LENGTH, list).result == 6);
     accepted(dacm_set_line(image, LENGTH, custodian, no_role, list, DACM_OWNER, custodian, DACM_DISCARD), 0);
     expect(set_of(second, document) == DACM_READ);
-    expect(dacm_set_line(image, LENGTH, custodian, no_role, list, DACM_ITSELF, third, DACM_READ).number == 19);
+    expect(dacm_set_line(image, LENGTH, custodian, no_role, list, DACM_ITSELF, third, DACM_READ).number
+           == DACM_TABLE_FULL);
 
     fresh();
-    refused(dacm_remove_line(image, LENGTH, first, no_role, list, DACM_ITSELF, fifth), 15);
-    refused(dacm_remove_line(image, LENGTH, custodian, no_role, list, DACM_ITSELF, third), 17);
+    refused(dacm_remove_line(image, LENGTH, first, no_role, list, DACM_ITSELF, fifth), DACM_NOT_PERMITTED);
+    refused(dacm_remove_line(image, LENGTH, custodian, no_role, list, DACM_ITSELF, third), DACM_NO_SUCH_ROW);
     accepted(dacm_remove_line(image, LENGTH, custodian, no_role, list, DACM_ITSELF, fifth), 0);
     expect(set_of(fifth, document) == (DACM_READ | DACM_REPLACE));
 }
@@ -149,26 +150,26 @@ static void change_lines(void)
 static void change_items(void)
 {
     fresh();
-    refused(dacm_create_item(image, LENGTH, fourth, no_role, list, 0), 15);
-    refused(dacm_create_item(image, LENGTH, first, no_role, list, 4), 14);
+    refused(dacm_create_item(image, LENGTH, fourth, no_role, list, 0), DACM_NOT_PERMITTED);
+    refused(dacm_create_item(image, LENGTH, first, no_role, list, 4), DACM_OUT_OF_RANGE);
     accepted(dacm_create_item(image, LENGTH, first, no_role, none, DACM_IS_LIST | DACM_LOCKED), nothing.number);
-    expect(dacm_list_count(image, LENGTH, nothing).number == 0);
+    expect(dacm_list_count(image, LENGTH, nothing).number == DACM_DONE);
     expect(dacm_list_start(image, LENGTH, nothing) == 0);
-    expect(dacm_bind(image, LENGTH, first, nothing, list).number == 15);
+    expect(dacm_bind(image, LENGTH, first, nothing, list).number == DACM_NOT_PERMITTED);
 
     fresh();
-    refused(dacm_bind(image, LENGTH, fifth, unlisted, list), 15);
-    refused(dacm_bind(image, LENGTH, second, none, list), 12);
+    refused(dacm_bind(image, LENGTH, fifth, unlisted, list), DACM_NOT_PERMITTED);
+    refused(dacm_bind(image, LENGTH, second, none, list), DACM_UNKNOWN_ITEM);
     accepted(dacm_bind(image, LENGTH, second, unlisted, list), 0);
     expect(set_of(second, unlisted) == 3);
     accepted(dacm_bind(image, LENGTH, second, unlisted, none), 0);
     expect(unchanged());
 
     fresh();
-    refused(dacm_hand_over(image, LENGTH, second, unlisted, fifth), 15);
-    refused(dacm_hand_over(image, LENGTH, custodian, unlisted, nobody), 11);
+    refused(dacm_hand_over(image, LENGTH, second, unlisted, fifth), DACM_NOT_PERMITTED);
+    refused(dacm_hand_over(image, LENGTH, custodian, unlisted, nobody), DACM_UNKNOWN_SUBJECT);
     accepted(dacm_hand_over(image, LENGTH, custodian, unlisted, fifth), 0);
-    expect(dacm_bind(image, LENGTH, fifth, unlisted, list).number == 0);
+    expect(dacm_bind(image, LENGTH, fifth, unlisted, list).number == DACM_DONE);
 }
 
 int main(void)

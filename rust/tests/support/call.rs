@@ -1,7 +1,7 @@
 //! A call with its arguments, made on the library or on the twin.
 
 use crate::twin;
-use dacm::{Flags, Item, Kind, Refusal, Role, Subject};
+use dacm::{Flags, Item, Kind, Privileges, Refusal, Role, Subject};
 use std::ops::Range;
 
 /// One variant for each function of the header. The arguments are plain numbers, so that any number
@@ -103,9 +103,9 @@ impl Call {
             Call::Check =>
                 done(dacm::check(image)),
             Call::OperationSet { subject, role } =>
-                with_result(dacm::operation_set(image, Subject(subject), Role(role))),
+                with_result(dacm::operation_set(image, Subject(subject), Role(role)).map(|set| set.0)),
             Call::PermissionSet { subject, role, item } =>
-                with_result(dacm::permission_set(image, Subject(subject), Role(role), Item(item))),
+                with_result(dacm::permission_set(image, Subject(subject), Role(role), Item(item)).map(|set| set.0)),
             Call::ListCount { list } =>
                 with_result(dacm::list_count(image, Item(list))),
             Call::LinesOf { list } =>
@@ -121,16 +121,16 @@ impl Call {
     pub fn on_library(&self, image: &mut [u8]) -> Outcome {
         match *self {
             Call::DefineSubject { caller, role, parent, privileges } =>
-                with_result(dacm::define_subject(image, Subject(caller), Role(role), Subject(parent), privileges)
-                    .map(|defined| defined.0)),
+                with_result(dacm::define_subject(image, Subject(caller), Role(role), Subject(parent),
+                    Privileges(privileges)).map(|defined| defined.0)),
             Call::SetGrant { caller, receiver, role, domain, privileges } =>
                 done(dacm::set_grant(image, Subject(caller), Subject(receiver), Role(role), Subject(domain),
-                    privileges)),
+                    Privileges(privileges))),
             Call::RemoveGrant { caller, receiver, role } =>
                 done(dacm::remove_grant(image, Subject(caller), Subject(receiver), Role(role))),
             Call::SetLine { caller, role, list, kind, subject, privileges } =>
                 done(dacm::set_line(image, Subject(caller), Role(role), Item(list), Kind(kind), Subject(subject),
-                    privileges)),
+                    Privileges(privileges))),
             Call::RemoveLine { caller, role, list, kind, subject } =>
                 done(dacm::remove_line(image, Subject(caller), Role(role), Item(list), Kind(kind), Subject(subject))),
             Call::CreateItem { caller, role, list, flags } =>
