@@ -98,7 +98,7 @@ mod tests {
     }
 
     #[test]
-    fn flags_contain_their_parts() {
+    fn flags_contain_some_of_them() {
         assert!((Flags::IS_LIST | Flags::LOCKED).contains(Flags::LOCKED));
         assert!(!Flags::IS_LIST.contains(Flags::LOCKED));
         assert!(Flags::NONE.contains(Flags::NONE));

@@ -102,10 +102,10 @@ mod tests {
     }
 
     #[test]
-    fn a_set_contains_its_parts() {
+    fn a_set_contains_its_subsets() {
         let set = Privileges::READ | Privileges::ANNOTATE;
-        for part in [Privileges::NONE, Privileges::READ, set] {
-            assert!(set.contains(part), "{part}");
+        for subset in [Privileges::NONE, Privileges::READ, set] {
+            assert!(set.contains(subset), "{subset}");
         }
         for other in [Privileges::REPLACE, Privileges(3), Privileges::ALL] {
             assert!(!set.contains(other), "{other}");

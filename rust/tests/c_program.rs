@@ -3,6 +3,7 @@
 
 use dacm::{Flags, Kind, Privileges, Refusal};
 use std::collections::BTreeMap;
+use std::io::ErrorKind;
 use std::path::{Path, PathBuf};
 use std::process::Command;
 
@@ -10,7 +11,7 @@ const FLAGS: [&str; 5] = ["-std=c99", "-Wall", "-Wextra", "-Wpedantic", "-Werror
 
 #[test]
 fn every_function_from_c() {
-    let program = compile(&here().join("tests/c/calls.c"), "calls");
+    let program = compile(&here().join("tests/c/calls.c"), "calls", &built());
     let ended = Command::new(&program).status().expect("the program starts");
     // The exit status is the number of the first check that failed.
     assert_eq!(ended.code(), Some(0), "a check of calls.c failed");
@@ -19,16 +20,68 @@ fn every_function_from_c() {
 /// The first C program of the README prints what the README says.
 #[test]
 fn the_readme_from_c() {
+    assert_readme_runs("readme", &built());
+}
+
+/// The same with what `make install` puts under a prefix, and with nothing else.
+#[test]
+fn the_readme_from_c_with_the_installed_library() {
+    let prefix = Path::new(env!("CARGO_TARGET_TMPDIR")).join("installed");
+    let made = Command::new("make")
+        .env_remove("MAKEFLAGS") // of a `make` that runs these tests
+        .arg("-C")
+        .arg(here().join(".."))
+        .arg("install")
+        .arg(format!("PREFIX={}", prefix.display()))
+        .output()
+        .expect("there is a make");
+    let said = String::from_utf8_lossy(&made.stderr);
+    assert!(made.status.success(), "make install fails:\n{said}");
+    assert_readme_runs("readme_installed", &installed(&prefix));
+}
+
+fn assert_readme_runs(name: &str, library: &[String]) {
     let readme = std::fs::read_to_string(here().join("../README.md")).expect("there is a README");
-    let source = Path::new(env!("CARGO_TARGET_TMPDIR")).join("readme.c");
+    let source = Path::new(env!("CARGO_TARGET_TMPDIR")).join(format!("{name}.c"));
     std::fs::write(&source, block(&readme, "c")).expect("cargo's folder for tests takes a file");
-    let program = compile(&source, "readme");
+    let program = compile(&source, name, library);
     let ended = Command::new(&program).output().expect("the program starts");
     assert!(ended.status.success());
     assert_eq!(
         String::from_utf8_lossy(&ended.stdout),
         block(&readme, "text")
     );
+}
+
+/// What a compiler is told to find header and archive where they are built.
+fn built() -> Vec<String> {
+    let include = here().join("../include");
+    vec![
+        format!("-I{}", include.display()),
+        env!("DACM_ARCHIVE").into(),
+    ]
+}
+
+/// The same for an installed library: what `pkg-config` says, or by hand where that is missing.
+fn installed(prefix: &Path) -> Vec<String> {
+    let asked = Command::new("pkg-config")
+        .env("PKG_CONFIG_PATH", prefix.join("lib/pkgconfig"))
+        .args(["--cflags", "--libs", "dacm"])
+        .arg(concat!("dacm = ", env!("CARGO_PKG_VERSION")))
+        .output();
+    match asked {
+        Ok(said) => {
+            assert!(said.status.success(), "pkg-config does not find dacm");
+            let flags = String::from_utf8_lossy(&said.stdout);
+            flags.split_whitespace().map(String::from).collect()
+        }
+        Err(error) if error.kind() == ErrorKind::NotFound => vec![
+            format!("-I{}/include", prefix.display()),
+            format!("-L{}/lib", prefix.display()),
+            "-ldacm".into(),
+        ],
+        Err(error) => panic!("pkg-config does not start: {error}"),
+    }
 }
 
 /// The header names the same numbers as the crate, no fewer and no others.
@@ -116,17 +169,15 @@ fn block<'a>(text: &'a str, language: &str) -> &'a str {
     rest.split_once("```").expect("the block ends").0
 }
 
-/// Compiles a C program with the header, links it with the archive and returns its path.
-fn compile(source: &Path, name: &str) -> PathBuf {
+/// Compiles a C program with the library and returns its path.
+fn compile(source: &Path, name: &str, library: &[String]) -> PathBuf {
     let folder = Path::new(env!("CARGO_TARGET_TMPDIR")).join("c_program");
     std::fs::create_dir_all(&folder).expect("cargo's folder for tests takes another");
     let program = folder.join(name);
     let ended = Command::new("cc")
         .args(FLAGS)
-        .arg("-I")
-        .arg(here().join("../include"))
         .arg(source)
-        .arg(env!("DACM_ARCHIVE"))
+        .args(library) // behind the source, because a linker goes from left to right
         .arg("-o")
         .arg(&program)
         .output()
