@@ -9,15 +9,28 @@ PREFIX = /usr/local
 
 # The report program and the crates that it stands on. In crates.txt a crate comes after those that it names.
 REPORT_CRATES = $(shell tac crates.txt | awk -F: 'BEGIN { needed["report"] } \
-    $$1 in needed { print $$1; count = split($$2, names, " "); for (n = 1; n <= count; n++) needed[names[n]] }')
+    $$1 in needed { print $$1; count = split($$2, names, " "); for (n = 1; n <= count; n++) needed[names[n]] }' | tac)
+
+CRATE_COUNT = $(words $(REPORT_CRATES))
+
+# Reads what `rt` prints. Whenever a crate has just been proved, says which one is being proved now: `rt` takes them in
+# their order. A crate that had been proved before is passed over.
+define PROGRESS
+set -- $(REPORT_CRATES); \
+while read -r from crate did time; do \
+    [ "$$from $$did" = 'rt: proved' ] || continue; \
+    shift; \
+    number=$$(($(CRATE_COUNT) - $$# + 1)); \
+    case "$$time" in *' s)') [ $$# = 0 ] || echo "proving $$number of $(CRATE_COUNT): $$1" ;; esac; \
+done
+endef
 
 # Proves and builds the report program where that has not been done, and prints the report of the image.
 report:
 	@[ -r '$(IMAGE)' ] && [ ! -d '$(IMAGE)' ] || { echo "The image '$(IMAGE)' cannot be read." >&2; exit 1; }
-	@[ -x target/bin/report ] || echo 'The report program is proved before its first run: $(words $(REPORT_CRATES)) crates.' >&2
+	@[ -x target/bin/report ] || echo 'proving 1 of $(CRATE_COUNT): $(firstword $(REPORT_CRATES))' >&2
 	@mkdir -p target
-	@rt check report 2>&1 | tee target/report.log | awk '/^rt: .* proved \(/ { proved++ } \
-	    /^rt: .* proved \([0-9]+ s\)$$/ { print "proved", proved, "of $(words $(REPORT_CRATES)):", $$2, $$4, $$5; fflush() }' >&2
+	@rt check report 2>&1 | tee target/report.log | { $(PROGRESS); } >&2
 	@tail -n 1 target/report.log | grep -q '^rt: ok' || { cat target/report.log >&2; exit 1; }
 	@target/bin/report <'$(IMAGE)'
 
