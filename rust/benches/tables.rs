@@ -24,6 +24,8 @@ mod tables;
 mod timing;
 #[path = "../tests/twin/mod.rs"]
 mod twin;
+#[path = "../tests/yardstick/mod.rs"]
+mod yardstick;
 
 use call::Call;
 use cases::{Case, Operation};

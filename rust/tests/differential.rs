@@ -9,6 +9,7 @@
 
 mod support;
 mod twin;
+mod yardstick;
 
 use support::boundary::{boundary_images, telling_tables, Boundary};
 use support::call::Call;

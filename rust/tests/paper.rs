@@ -2,6 +2,7 @@
 
 mod support;
 mod twin;
+mod yardstick;
 
 use support::boundary::custodian_only;
 use support::call::{Call, Outcome};

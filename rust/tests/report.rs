@@ -3,6 +3,7 @@
 
 mod support;
 mod twin;
+mod yardstick;
 
 use std::io::Write;
 use std::path::{Path, PathBuf};

@@ -5,6 +5,7 @@
 
 mod support;
 mod twin;
+mod yardstick;
 
 use support::call::Call;
 use support::choose::Chooser;

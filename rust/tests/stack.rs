@@ -3,6 +3,7 @@
 
 mod support;
 mod twin;
+mod yardstick;
 
 use dacm::privileges::{ALL, EDIT_LIST, READ};
 use dacm::{Item, Kind, Refusal, Role, Subject, STACK_BYTES};
