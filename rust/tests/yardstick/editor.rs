@@ -49,7 +49,7 @@ impl Search<'_> {
 
     /// The owner's own line does not count.
     fn by_own_line(&self) -> Option<u32> {
-        let mut lines = self.list.own.iter().map(Line::of);
+        let mut lines = self.list.own().iter().map(Line::of);
         let named = lines.find(|line| {
             gives(line.privileges) && line.subject != self.owner && self.is_able(line.subject)
         });
@@ -59,7 +59,7 @@ impl Search<'_> {
     /// One pass from the top: what the groups give a subject is known before anybody below it is
     /// looked at.
     fn by_group_line(&self) -> Option<u32> {
-        let mut lines = self.list.groups.iter().map(Line::of).peekable();
+        let mut lines = self.list.groups().iter().map(Line::of).peekable();
         if !lines.clone().any(|line| gives(line.privileges)) {
             return None;
         }
@@ -67,21 +67,13 @@ impl Search<'_> {
         let mut given_below = Vec::with_capacity(self.tables.subjects.used.len());
         for subject in 0..self.tables.subject_count() {
             let above = subject != CUSTODIAN && given_below[tree.parent(subject) as usize];
-            if above && self.is_able(subject) && !self.has_direct_line(subject) {
+            let by_groups = || self.list.direct_line(subject, self.owner).is_none();
+            if above && self.is_able(subject) && by_groups() {
                 return Some(subject);
             }
             let line = lines.next_if(|line| line.subject == subject);
             given_below.push(line.map_or(above, |line| gives(line.privileges)));
         }
         None
-    }
-
-    /// Is there a line that counts before those of the groups?
-    fn has_direct_line(&self, subject: u32) -> bool {
-        if subject == self.owner {
-            self.list.owner.is_some()
-        } else {
-            self.list.own_line(subject).is_some()
-        }
     }
 }

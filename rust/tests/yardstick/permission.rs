@@ -12,7 +12,7 @@ pub fn operation_set(tables: &Tables, subject: u32, grant: Option<Grant>) -> u32
     own | lent
 }
 
-/// The list is taken apart once, for the subject and for the grantor.
+/// The list is looked up once, for the subject and for the grantor.
 pub fn permission_set(tables: &Tables, subject: u32, role: u32, item: Item) -> u32 {
     if subject == CUSTODIAN {
         return ALL;

@@ -126,6 +126,11 @@ impl Line {
     pub fn key(self) -> u64 {
         line_key(self.list, self.kind, self.subject)
     }
+
+    #[inline]
+    pub fn run(self) -> u64 {
+        run_key(self.list, self.kind)
+    }
 }
 
 impl Item {
@@ -160,4 +165,11 @@ pub fn grant_key(receiver: u32, role: u32) -> u64 {
 #[inline]
 pub fn line_key(list: u32, kind: u32, subject: u32) -> u64 {
     (list as u64) << 34 | (kind as u64) << 32 | subject as u64
+}
+
+/// Lines of one list and kind stand together, in a run. The runs are sorted by this number, which
+/// holds both fields in full.
+#[inline]
+pub fn run_key(list: u32, kind: u32) -> u64 {
+    (list as u64) << 32 | kind as u64
 }

@@ -2,7 +2,7 @@
 //! into a column for each list that has lines. Then a subject's sets cost a few instructions a column.
 
 use super::list::List;
-use super::rows::{Line, LineRow, ALL, CUSTODIAN};
+use super::rows::{Line, LineRow, ALL, CUSTODIAN, NO_LIST};
 use super::tables::Tables;
 use super::tree::Tree;
 
@@ -18,12 +18,16 @@ pub struct Sets<'a> {
 
 impl<'a> Sets<'a> {
     pub fn new(tables: Tables<'a>) -> Sets<'a> {
-        let of_one_list = |one: &LineRow, next: &LineRow| Line::of(one).list == Line::of(next).list;
-        let lines = tables.lines.used.chunk_by(of_one_list).map(List::of);
-        let lists: Vec<List> = [List::of(&[])].into_iter().chain(lines).collect();
+        let list_of = |row: &LineRow| Line::of(row).list;
+        let lines = tables.lines.used;
+        let with_lines = lines
+            .chunk_by(|one, next| list_of(one) == list_of(next))
+            .map(|lines| List::at_end(lines, list_of(&lines[0])));
+        let without_lines = List::at_end(&[], NO_LIST);
+        let lists: Vec<List> = [without_lines].into_iter().chain(with_lines).collect();
         let subjects = tables.subjects.used.len();
-        let own = BySubject::new(subjects, lists.iter().map(|list| list.own));
-        let heads = BySubject::new(subjects, lists.iter().map(|list| list.groups));
+        let own = BySubject::new(subjects, lists.iter().map(List::own));
+        let heads = BySubject::new(subjects, lists.iter().map(List::groups));
         let groups = Groups::new(tables.tree(), &heads, lists.len());
         Sets {
             tables,

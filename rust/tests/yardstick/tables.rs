@@ -96,10 +96,11 @@ impl<'a> Tables<'a> {
         (start, &lines[start..start + count])
     }
 
-    /// The lines of an item's list, taken apart. List 0 has no lines.
+    /// An item's list. List 0 has no lines.
     pub fn list_of(&self, item: Item) -> List<'a> {
-        let (_, lines) = self.lines_of(item.list);
-        List::of(lines)
+        let lines = self.lines.used;
+        let end = lines.partition_point(|row| Line::of(row).list <= item.list);
+        List::at_end(&lines[..end], item.list)
     }
 
     /// Where the line with this key is, or else where it would be.

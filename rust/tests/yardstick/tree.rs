@@ -2,6 +2,9 @@
 
 use super::rows::{Subject, SubjectRow};
 
+/// Climbs of at most so many steps are just made, and not counted.
+const SHORT_CLIMB: usize = 8;
+
 /// Steps through a run of subjects that take as long as one step elsewhere.
 const RUN_STEPS: usize = 4;
 
@@ -39,9 +42,22 @@ impl<'a> Tree<'a> {
         self.climb_counting(from, bound, &mut 0)
     }
 
-    /// The same, and counts the steps by the time that they take.
+    /// The same. If the climb is long, adds its steps to those counted already.
     #[inline]
-    pub fn climb_counting(self, from: u32, bound: u32, steps: &mut usize) -> u32 {
+    fn climb_counting(self, from: u32, bound: u32, steps: &mut usize) -> u32 {
+        let mut reached = from;
+        for _ in 0..SHORT_CLIMB {
+            if reached <= bound {
+                return reached;
+            }
+            reached = self.parent(reached);
+        }
+        self.climb_far(reached, bound, steps)
+    }
+
+    /// Looks out for runs, in which each subject is directly below the one before it.
+    #[cold]
+    fn climb_far(self, from: u32, bound: u32, steps: &mut usize) -> u32 {
         let mut reached = from;
         while reached > bound {
             let parent = self.parent(reached);
@@ -55,8 +71,8 @@ impl<'a> Tree<'a> {
         reached
     }
 
-    /// Climbs a run of subjects, each directly below the one before it. Their rows are read one
-    /// after the other, so no row waits for the parent in the row below it.
+    /// Climbs to where a run ends. Its rows are read one after the other: where the next row is does
+    /// not depend on the parent in this one, so the processor need not wait for it.
     fn climb_run(self, from: u32, bound: u32, steps: &mut usize) -> u32 {
         let rows = &self.subjects[bound as usize + 1..=from as usize];
         let is_run = |(before, row): &(u32, &SubjectRow)| Subject::of(row).parent == *before;
@@ -65,13 +81,9 @@ impl<'a> Tree<'a> {
         from - run as u32
     }
 
-    /// How many steps are worth an index.
-    pub fn index_worth(self) -> usize {
-        INDEX_STEPS * self.subjects.len()
-    }
-
-    /// Numbers the subjects so that each tree is a range of numbers, beginning with its head.
-    pub fn index(self) -> Index {
+    /// Two passes: the sizes of all trees from the bottom, then their places from the top.
+    #[cold]
+    fn index(self) -> Index {
         let parents = || {
             self.subjects
                 .iter()
@@ -81,28 +93,59 @@ impl<'a> Tree<'a> {
         for (subject, parent) in parents().enumerate().skip(1).rev() {
             sizes[parent] += sizes[subject];
         }
-        let mut starts = vec![0; sizes.len()];
-        // Where the next tree below each subject starts.
+        let mut places = vec![0; sizes.len()];
+        // The place of the next tree below each subject.
         let mut next = vec![1; sizes.len()];
         for (subject, parent) in parents().enumerate().skip(1) {
-            starts[subject] = next[parent];
+            places[subject] = next[parent];
             next[parent] += sizes[subject];
-            next[subject] = starts[subject] + 1;
+            next[subject] = places[subject] + 1;
         }
-        Index { starts, sizes }
+        Index { places, sizes }
     }
 }
 
-/// Answers in a few instructions, however deep the tree is.
-pub struct Index {
-    starts: Vec<u32>,
+/// Many questions about one tree. Climbing is the quickest way to answer a few, or if the climbs are
+/// short. Once they have taken about as long as an index would, an index answers the others.
+pub struct Climbs<'a> {
+    tree: Tree<'a>,
+    steps: usize,
+    index: Option<Index>,
+}
+
+impl<'a> Climbs<'a> {
+    pub fn new(tree: Tree<'a>) -> Climbs<'a> {
+        Climbs {
+            tree,
+            steps: 0,
+            index: None,
+        }
+    }
+
+    /// Is the subject the head or below it?
+    #[inline]
+    pub fn is_in(&mut self, subject: u32, head: u32) -> bool {
+        if let Some(index) = &self.index {
+            return index.is_in(subject, head);
+        }
+        let reached = self.tree.climb_counting(subject, head, &mut self.steps);
+        if self.steps > INDEX_STEPS * self.tree.len() {
+            self.index = Some(self.tree.index());
+        }
+        reached == head
+    }
+}
+
+/// The subjects in an order in which each tree stands together, its head first.
+struct Index {
+    places: Vec<u32>,
     sizes: Vec<u32>,
 }
 
 impl Index {
-    pub fn in_tree(&self, subject: u32, head: u32) -> bool {
-        let start = self.starts[head as usize];
-        let behind_head = self.starts[subject as usize].wrapping_sub(start);
-        behind_head < self.sizes[head as usize]
+    fn is_in(&self, subject: u32, head: u32) -> bool {
+        let place = self.places[subject as usize];
+        let from_head = place.wrapping_sub(self.places[head as usize]);
+        from_head < self.sizes[head as usize]
     }
 }
