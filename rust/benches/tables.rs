@@ -1,5 +1,6 @@
-//! The proved library and the twin, an independent implementation in Rust: how long the same calls
-//! take on the same images. `make bench` in the folder above runs this and builds what it needs.
+//! The proved library and two independent implementations in Rust, the plain twin and the quick
+//! yardstick: how long the same calls take on the same images. `make bench` in the folder above runs
+//! this and builds what it needs.
 
 #[allow(dead_code)]
 #[path = "../tests/support/call.rs"]
@@ -17,6 +18,10 @@ mod random;
 mod reports;
 #[path = "../tests/support/sample.rs"]
 mod sample;
+#[path = "tables/setting.rs"]
+mod setting;
+#[path = "tables/sides.rs"]
+mod sides;
 #[allow(dead_code)]
 #[path = "../tests/support/tables.rs"]
 mod tables;
@@ -24,19 +29,23 @@ mod tables;
 mod timing;
 #[path = "../tests/twin/mod.rs"]
 mod twin;
+#[path = "../tests/yardstick/mod.rs"]
+mod yardstick;
 
 use call::Call;
 use cases::{Case, Operation};
 use printing::Row;
+use sides::{Side, SIDES};
 use std::io;
 
 fn main() -> io::Result<()> {
-    if reports::asked_for_twin_report() {
-        return reports::print_twin_report();
+    if let Some(side) = Side::asked_for_report() {
+        return reports::print_report(side);
     }
     reports::stop_without_report_program();
     let cases = cases::cases();
     cases.iter().for_each(assert_accepted);
+    setting::print_setting();
     printing::print_what_is_measured(&cases);
     printing::print_heading();
     timing::warm_up(&cases[0].image);
@@ -71,21 +80,30 @@ fn measure(case: &Case, rows: &mut Vec<Row>) -> io::Result<()> {
 }
 
 fn assert_accepted(case: &Case) {
-    let name = case.image_name;
-    assert_eq!(dacm::check(&case.image), Ok(()), "the library on {name}");
-    assert_eq!(twin::check(&case.image).number, 0, "the twin on {name}");
+    for side in SIDES {
+        let answer = side.make(&Call::Check, &mut case.image.clone());
+        assert_eq!(
+            answer.number,
+            0,
+            "the {} on {}",
+            side.name(),
+            case.image_name
+        );
+    }
 }
 
-/// Library and twin answer the same and leave the same bytes. No call is refused, except the editor
-/// search if there is no editor.
+/// All sides answer the same and leave the same bytes. No call is refused, except the editor search
+/// if there is no editor.
 fn assert_same_answer(case: &Case, operation: &Operation) {
     let what = format!("{} on {}", operation.name, case.image_name);
-    let mut by_library = case.image.clone();
-    let mut by_twin = case.image.clone();
-    let answer = operation.call.on_library(&mut by_library);
-    assert_eq!(answer, operation.call.on_twin(&mut by_twin), "{what}");
-    assert!(by_library == by_twin, "different bytes after {what}");
+    let [library, twin, yardstick] = SIDES.map(|side| {
+        let mut image = case.image.clone();
+        (side.make(&operation.call, &mut image), image)
+    });
+    assert!(library == twin, "library and twin differ: {what}");
+    assert!(library == yardstick, "library and yardstick differ: {what}");
     let no_editor = 20;
+    let (answer, _) = library;
     let none_there =
         matches!(operation.call, Call::FindEditor { .. }) && answer.number == no_editor;
     assert!(answer.number == 0 || none_there, "{what} is refused");

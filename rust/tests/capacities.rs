@@ -2,6 +2,7 @@
 
 mod support;
 mod twin;
+mod yardstick;
 
 use dacm::{Capacities, Flags, Item, Kind, Privileges, Refusal, Role, Subject};
 use support::random::Random;

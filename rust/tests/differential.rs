@@ -1,4 +1,5 @@
-//! Every call on random, damaged and extreme images: the library against the twin.
+//! Every call on random, damaged and extreme images: the library against the twin, and the yardstick
+//! beside them.
 //!
 //! Compared are the number, the result, the slice that `lines_of` shows, and every byte of the image
 //! afterwards. Of the editor search's result, the twin only checks that the subject may be named.
@@ -9,7 +10,9 @@
 
 mod support;
 mod twin;
+mod yardstick;
 
+use std::collections::BTreeSet;
 use support::boundary::{boundary_images, telling_tables, Boundary};
 use support::call::Call;
 use support::choose::Chooser;
@@ -70,6 +73,52 @@ fn replace_every_field(name: &str, tables: &Tables) {
             compare(&mut damaged, &call, &seed);
         }
     }
+}
+
+/// Trees of a hundred levels and more, with so many grants that the yardstick does not climb for each
+/// of them but makes an index of the tree.
+#[test]
+fn many_grants_in_deep_trees() {
+    let mut numbers = BTreeSet::new();
+    for seed in 0..rounds(10) {
+        let random = &mut Random::new(seed);
+        let tables = deep_tree_with_grants(random, 300, 200);
+        let accepted = compare(
+            &mut tables.image(),
+            &Call::Check,
+            "grants as they should be",
+        );
+        assert_eq!(accepted.number, 0, "seed {seed}");
+        for grant in 0..tables.grants.used() {
+            let mut changed = tables.clone();
+            let [_, _, _, domain, _] = &mut changed.grants.rows[grant];
+            *domain = random.below(300) as u32;
+            let case = format!("seed {seed}, domain of grant {grant} is {domain}");
+            let outcome = compare(&mut changed.image(), &Call::Check, &case);
+            numbers.insert(outcome.number);
+        }
+    }
+    assert_eq!(numbers, BTreeSet::from([0, 6]));
+}
+
+/// Each subject is below one of the three before it. Each grantor is up to 100 levels above the
+/// domain.
+fn deep_tree_with_grants(random: &mut Random, subjects: usize, grants: usize) -> Tables {
+    let mut tables = sample();
+    tables.subjects.rows.truncate(1);
+    for number in 1..subjects {
+        let parent = number - 1 - random.below(number.min(3));
+        tables.subjects.rows.push([parent as u32, 127, 0]);
+    }
+    let parents: Vec<u32> = tables.subjects.rows.iter().map(|row| row[0]).collect();
+    let grant = |receiver| {
+        let domain = random.below(subjects) as u32;
+        let levels = random.up_to(100);
+        let grantor = (0..levels).fold(domain, |reached, _| parents[reached as usize]);
+        [receiver, 7, grantor, domain, 127]
+    };
+    tables.grants.rows = (0..grants as u32).map(grant).collect();
+    tables
 }
 
 #[test]

@@ -4,6 +4,7 @@
 
 mod support;
 mod twin;
+mod yardstick;
 
 use std::cell::Cell;
 use std::os::unix::process::ExitStatusExt;

@@ -1,7 +1,9 @@
-//! The sample workshop: every case that the paper gives, on the library and on the twin.
+//! The sample workshop: every case that the paper gives, on the library, on the twin and on the
+//! yardstick.
 
 mod support;
 mod twin;
+mod yardstick;
 
 use support::boundary::custodian_only;
 use support::call::{Call, Outcome};
@@ -12,7 +14,7 @@ use support::tables::{get_field, set_field, Table, Tables};
 /// Privileges to try where the paper names none.
 const SOME_PRIVILEGES: [u32; 5] = [0, 1, 127, 255, u32::MAX];
 
-/// Makes the call on the library and on the twin, which must agree, and returns number and result.
+/// Makes the call on all three, which must agree, and returns number and result.
 fn answer(image: &mut [u8], call: Call) -> (u32, u32) {
     let Outcome { number, result, .. } = compare(image, &call, "no seed");
     (number, result)
@@ -213,8 +215,11 @@ fn the_report_of_72_bytes() {
     assert_eq!(answer(&mut [], Call::Check), refused(1));
 }
 
+/// The report of the twin and of the yardstick, which must agree.
 fn report(image: &[u8]) -> String {
-    let mut out = Vec::new();
-    twin::report(image, &mut out).expect("a vector takes every byte");
-    String::from_utf8(out).expect("the report is plain text")
+    let (mut twins, mut yardsticks) = (Vec::new(), Vec::new());
+    twin::report(image, &mut twins).expect("a vector takes every byte");
+    yardstick::report(image, &mut yardsticks).expect("a vector takes every byte");
+    assert_eq!(twins, yardsticks);
+    String::from_utf8(twins).expect("the report is plain text")
 }

@@ -1,30 +1,76 @@
 //! The report program, run on images. What it prints is compared with files and with the twin's
-//! report.
+//! report, and so is the yardstick's report.
 
 mod support;
 mod twin;
+mod yardstick;
 
-use std::io::Write;
+use std::fs::{self, File};
 use std::path::{Path, PathBuf};
-use std::process::{Command, Stdio};
-use std::thread;
+use std::process::Command;
+use std::time::Duration;
 
 use support::boundary::boundary_images;
 use support::damage::damage;
 use support::libraries::Size;
+use support::program::{compare_printed, difference};
 use support::random::Random;
 use support::rounds;
+use support::sample::{EVERYONE, GROUP, ITSELF, OWNER};
 use support::tables::{Table, Tables};
+
+/// How long the report program may take. It takes some seconds at most.
+const SECONDS: f64 = 60.0;
 
 /// The paper's example of 72 bytes, the sample workshop, a refused image, an image with no item.
 #[test]
 fn the_reports_on_file() {
     for name in ["example", "workshop", "refused", "no-items"] {
-        let image = read(&format!("{name}.img"));
-        let wanted = read(&format!("{name}.txt"));
-        assert_same(&report(&image), &wanted, name);
+        let image = read(&format!("images/{name}.img"));
+        let wanted = read(&format!("images/{name}.txt"));
+        assert_reports(&image, &wanted, name);
         assert_same(&twins_report(&image), &wanted, name);
     }
+}
+
+/// The image on which `rt` runs the program: 46 subjects by 46 items, which makes three pages.
+#[test]
+fn the_report_of_three_pages() {
+    let custodian = [0, u32::MAX, 0];
+    let below = (1..46).map(|subject| [(subject - 1) / 2, 127, 0]);
+    let list = [1, 1, 1];
+    let under_it = (1..46).map(|owner| [owner, 1, 0]);
+    let tables = Tables {
+        subjects: full([custodian].into_iter().chain(below)),
+        lines: full([
+            [1, ITSELF, 4, 8],
+            [1, ITSELF, 5, 0],
+            [1, GROUP, 1, 3],
+            [1, GROUP, 2, 64],
+            [1, OWNER, 0, 7],
+            [1, EVERYONE, 0, 1],
+        ]),
+        items: full([list].into_iter().chain(under_it)),
+        ..Tables::default()
+    };
+    let image = read("crates/report/stdin");
+    assert!(image == tables.image(), "the image has other rows");
+    let wanted = read("crates/report/stdout");
+    assert_reports(&image, &wanted, "the image of three pages");
+    assert_same(&twins_report(&image), &wanted, "the image of three pages");
+}
+
+/// A folder can be opened, and cannot be read.
+#[test]
+fn an_input_that_cannot_be_read() {
+    let folder = File::open(here()).expect("a folder can be opened");
+    let ended = Command::new(report_program()).stdin(folder).output();
+    let ended = ended.expect("the report program starts");
+    assert_eq!(String::from_utf8_lossy(&ended.stdout), "");
+    assert_eq!(
+        String::from_utf8_lossy(&ended.stderr),
+        "The image on standard input cannot be read.\n"
+    );
 }
 
 #[test]
@@ -50,7 +96,7 @@ fn images_at_the_edges() {
 #[test]
 fn more_bytes_than_an_image_has() {
     for length in [65_537, 70_000, 1_000_000] {
-        assert_same(&report(&vec![0; length]), b"refused 1\n", "a long input");
+        assert_reports(&vec![0; length], b"refused 1\n", "a long input");
     }
 }
 
@@ -69,54 +115,61 @@ fn flat(subjects: usize, items: usize) -> Tables {
     let mut rows = vec![[0, 127, 0]; subjects];
     rows[0] = [0, u32::MAX, 0];
     Tables {
-        subjects: Table { rows, spare: 0 },
-        items: Table {
-            rows: vec![[0, 0, 0]; items],
-            spare: 0,
-        },
+        subjects: full(rows),
+        items: full(vec![[0, 0, 0]; items]),
         ..Tables::default()
     }
 }
 
-fn assert_as_twin(image: &[u8], name: &str) {
-    assert_same(&report(image), &twins_report(image), name);
+fn full<const FIELDS: usize>(rows: impl IntoIterator<Item = [u32; FIELDS]>) -> Table<FIELDS> {
+    Table {
+        rows: rows.into_iter().collect(),
+        spare: 0,
+    }
 }
 
-/// The message names the first line that differs, because the texts are too long to print.
-fn assert_same(said: &[u8], wanted: &[u8], name: &str) {
-    if said == wanted {
-        return;
-    }
-    let lines = |text: &[u8]| String::from_utf8_lossy(text).into_owned();
-    let (said, wanted) = (lines(said), lines(wanted));
-    let differ = said
-        .lines()
-        .zip(wanted.lines())
-        .position(|(one, other)| one != other);
-    panic!(
-        "the report on {name}: {} lines and not {}; the first that differs: {differ:?}",
-        said.lines().count(),
-        wanted.lines().count()
+/// Programs that print too much, too little or nothing are found out, and do not hold up the test.
+#[test]
+fn faulty_programs() {
+    let run = |program: &str, argument: &str, seconds| {
+        let limit = Duration::from_secs_f64(seconds);
+        let text = b"first\nsecond\n";
+        compare_printed(Command::new(program).arg(argument), b"", text, limit).unwrap_err()
+    };
+    assert_eq!(
+        run("yes", "first", SECONDS),
+        "line 2 is the first that differs"
+    );
+    assert_eq!(
+        run("yes", "first\nsecond", SECONDS),
+        "longer than it should be: there is more in line 3"
+    );
+    assert_eq!(
+        run("echo", "first", SECONDS),
+        "shorter than it should be: it ends in line 2"
+    );
+    assert_eq!(
+        run("sleep", "1000", 0.1),
+        "the program has not ended after 100ms"
     );
 }
 
-/// What the program prints. It may stop reading before all is written to it; this is no fault.
-fn report(image: &[u8]) -> Vec<u8> {
-    let program = here().join("../target/bin/report");
-    let mut child = Command::new(&program)
-        .stdin(Stdio::piped())
-        .stdout(Stdio::piped())
-        .spawn()
-        .expect("the report program is built: `make report` in the folder above does that");
-    let mut input = child.stdin.take().expect("its input is a pipe");
-    let bytes = image.to_vec();
-    let writer = thread::spawn(move || {
-        let _ = input.write_all(&bytes);
-    });
-    let ended = child.wait_with_output().expect("the program ends");
-    writer.join().expect("the writer ends");
-    assert!(ended.status.success(), "{program:?} ends with {ended:?}");
-    ended.stdout
+fn assert_as_twin(image: &[u8], name: &str) {
+    assert_reports(image, &twins_report(image), name);
+}
+
+/// The report program and the yardstick both print the wanted text.
+fn assert_reports(image: &[u8], wanted: &[u8], name: &str) {
+    let limit = Duration::from_secs_f64(SECONDS);
+    let printed = compare_printed(&mut Command::new(report_program()), image, wanted, limit);
+    assert_eq!(printed, Ok(()), "the report on {name}");
+    assert_same(&yardsticks_report(image), wanted, name);
+}
+
+fn assert_same(said: &[u8], wanted: &[u8], name: &str) {
+    if said != wanted {
+        panic!("the report on {name}: {}", difference(said, wanted));
+    }
 }
 
 fn twins_report(image: &[u8]) -> Vec<u8> {
@@ -125,8 +178,24 @@ fn twins_report(image: &[u8]) -> Vec<u8> {
     text
 }
 
+fn yardsticks_report(image: &[u8]) -> Vec<u8> {
+    let mut text = Vec::new();
+    yardstick::report(image, &mut text).expect("a vector takes any text");
+    text
+}
+
+fn report_program() -> PathBuf {
+    let program = here().join("../target/bin/report");
+    assert!(
+        program.is_file(),
+        "the report program is built by `make report` in the folder above"
+    );
+    program
+}
+
+/// A file of the repository.
 fn read(name: &str) -> Vec<u8> {
-    std::fs::read(here().join("../images").join(name)).expect("the image is on file")
+    fs::read(here().join("..").join(name)).expect("the file is there")
 }
 
 fn here() -> PathBuf {

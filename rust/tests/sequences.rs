@@ -1,10 +1,12 @@
-//! Long random sequences of calls on one image, as a host makes them: the library against the twin.
+//! Long random sequences of calls on one image, as a host makes them: the library against the twin,
+//! and the yardstick beside them.
 //!
 //! Three calls in four are chosen among those that write the image, the others among all calls. At
 //! the end each call must have been accepted, and refused with each of its own questions.
 
 mod support;
 mod twin;
+mod yardstick;
 
 use support::call::Call;
 use support::choose::Chooser;

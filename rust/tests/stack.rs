@@ -3,6 +3,7 @@
 
 mod support;
 mod twin;
+mod yardstick;
 
 use dacm::{Item, Kind, Privileges, Refusal, Role, Subject, STACK_BYTES};
 use std::thread;

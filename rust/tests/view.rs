@@ -2,6 +2,7 @@
 
 mod support;
 mod twin;
+mod yardstick;
 
 use dacm::{
     Capacities, Flags, GrantRow, Item, ItemRow, Kind, LineRow, Privileges, Refusal, Role, Row,

@@ -41,7 +41,7 @@ pub fn cases() -> Vec<Case> {
         mixed_case(),
         chain_case(),
         lines_case(),
-        most_lines_of_output_case(),
+        longest_report_case(),
     ]
 }
 
@@ -126,10 +126,10 @@ fn lines_case() -> Case {
 }
 
 /// Only for its report.
-fn most_lines_of_output_case() -> Case {
+fn longest_report_case() -> Case {
     Case {
-        image_name: "most lines of output",
-        image: images::most_lines_of_output().image(),
+        image_name: "longest report",
+        image: images::longest_report().image(),
         operations: Vec::new(),
         report_search: Search::Little,
     }

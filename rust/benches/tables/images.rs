@@ -98,7 +98,7 @@ pub fn lines() -> Tables {
 
 /// As many pairs of a subject and an item as fit, which gives the longest report: 7,447,441 lines
 /// after the heading. There are no lists and the tree is flat, so the time goes into the printing.
-pub fn most_lines_of_output() -> Tables {
+pub fn longest_report() -> Tables {
     let mut subjects = vec![[0, 127, 0]; 2_729];
     subjects[0] = CUSTODIAN;
     let items = (0..2_729).map(|owner| [owner, 0, 0]).collect();

@@ -2,6 +2,7 @@
 
 use crate::cases::{Case, Search};
 use crate::reports::{FEWEST_RUNS, MOST_RUNS};
+use crate::sides::Side;
 use crate::tables::Tables;
 use crate::timing::{Times, FEWEST_BATCHES, MOST_BATCHES};
 
@@ -14,7 +15,10 @@ pub struct Row {
 }
 
 pub fn print_what_is_measured(cases: &[Case]) {
-    println!("Proved library and twin, both built for release, images warm in cache, in turns.");
+    println!(
+        "Proved library, twin and yardstick, built for release, images warm in cache, in turns."
+    );
+    println!("Ratios: the library's time to that of the twin, and to that of the yardstick.");
     println!("Calls: best of {MOST_BATCHES} batches, of at least {FEWEST_BATCHES} where slow.");
     println!("Reports: best of {MOST_RUNS} whole processes, of at least {FEWEST_RUNS} where slow.");
     println!(
@@ -43,7 +47,7 @@ fn sizes(case: &Case) -> [String; 6] {
 }
 
 fn print_sizes([image, bytes, subjects, grants, lines, items]: [&str; 6]) {
-    println!("| {image:20} | {bytes:>6} | {subjects:>8} | {grants:>6} | {lines:>5} | {items:>5} |");
+    println!("| {image:14} | {bytes:>6} | {subjects:>8} | {grants:>6} | {lines:>5} | {items:>5} |");
 }
 
 pub fn print_heading() {
@@ -53,18 +57,24 @@ pub fn print_heading() {
         "library",
         "twin",
         "ratio",
+        "yardstick",
+        "ratio",
         "decided by",
     ]);
-    println!("|:--|:--|--:|--:|--:|:--|");
+    println!("|:--|:--|--:|--:|--:|--:|--:|:--|");
 }
 
 pub fn print_row(row: &Row) {
+    let time = |side| with_unit(row.times.of(side));
+    let ratio = |side| in_three_digits(row.times.ratio_to(side));
     print_times([
         row.image,
         row.operation,
-        &with_unit(row.times.library),
-        &with_unit(row.times.twin),
-        &format!("{:.2}", row.times.ratio()),
+        &time(Side::Library),
+        &time(Side::Twin),
+        &ratio(Side::Twin),
+        &time(Side::Yardstick),
+        &ratio(Side::Yardstick),
         match row.search {
             Search::Little => "",
             Search::BesideTheCheck => "check, search",
@@ -73,30 +83,37 @@ pub fn print_row(row: &Row) {
     ]);
 }
 
-fn print_times([image, operation, library, twin, ratio, decided]: [&str; 6]) {
+fn print_times(columns: [&str; 8]) {
+    let [image, operation, library, twin, to_twin, yardstick, to_yardstick, decided] = columns;
     println!(
-        "| {image:20} | {operation:31} | {library:>7} | {twin:>7} | {ratio:>6} | {decided:13} |"
+        "| {image:14} | {operation:31} | {library:>7} | {twin:>7} | {to_twin:>6} \
+         | {yardstick:>9} | {to_yardstick:>6} | {decided:13} |"
     );
 }
 
-/// The largest ratio among the rows of each kind of search.
+/// The largest ratios among the rows of each kind of search.
 pub fn print_summary(rows: &[Row]) {
     println!();
-    print_largest("without search", Search::Little, rows);
-    print_largest("with check and search", Search::BesideTheCheck, rows);
-    print_largest("with search", Search::Most, rows);
+    for side in [Side::Twin, Side::Yardstick] {
+        print_largest(side, "without search", Search::Little, rows);
+        print_largest(side, "with check and search", Search::BesideTheCheck, rows);
+        print_largest(side, "with search", Search::Most, rows);
+    }
 }
 
-fn print_largest(which: &str, search: Search, rows: &[Row]) {
+fn print_largest(side: Side, which: &str, search: Search, rows: &[Row]) {
+    let ratio = |row: &Row| row.times.ratio_to(side);
     let row = rows
         .iter()
         .filter(|row| row.search == search)
-        .max_by(|one, other| one.times.ratio().total_cmp(&other.times.ratio()))
+        .max_by(|one, other| ratio(one).total_cmp(&ratio(other)))
         .expect("there are rows of each kind");
-    let ratio = row.times.ratio();
     println!(
-        "Largest ratio {which}: {ratio:.2} ({}: {}).",
-        row.image, row.operation
+        "Largest ratio to the {} {which}: {} ({}: {}).",
+        side.name(),
+        in_three_digits(ratio(row)),
+        row.image,
+        row.operation
     );
 }
 
@@ -108,10 +125,15 @@ fn with_unit(seconds: f64) -> String {
         1e-6.. => (seconds * 1e6, "µs"),
         _ => (seconds * 1e9, "ns"),
     };
+    format!("{} {unit}", in_three_digits(number))
+}
+
+/// More digits only if there are more before the point.
+fn in_three_digits(number: f64) -> String {
     let decimals = match number {
         100.0.. => 0,
         10.0.. => 1,
         _ => 2,
     };
-    format!("{number:.decimals$} {unit}")
+    format!("{number:.decimals$}")
 }

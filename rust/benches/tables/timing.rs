@@ -1,11 +1,12 @@
-//! The time of a call, on the library and on the twin.
+//! The time of a call, on each side.
 
-use crate::call::{Call, Outcome};
+use crate::call::Call;
+use crate::sides::{Side, SIDES};
 use crate::tables::HEADER_BYTES;
 use std::hint::black_box;
 use std::time::{Duration, Instant};
 
-/// How many batches each side has if calls are quick, and if they are slow.
+/// How many batches each side makes if calls are quick, and if they are slow.
 pub const MOST_BATCHES: usize = 30;
 pub const FEWEST_BATCHES: usize = 3;
 
@@ -20,21 +21,25 @@ const ROW_SECONDS: f64 = 1.5;
 /// The copies that a batch changes have at most this many bytes, so that they stay in the cache.
 const MOST_COPIED: usize = 512 * 1024;
 
-/// The best times of the library and of the twin, in seconds.
+/// The best time of each side, in seconds.
 #[derive(Clone, Copy)]
-pub struct Times {
-    pub library: f64,
-    pub twin: f64,
-}
+pub struct Times([f64; SIDES.len()]);
 
 impl Times {
-    pub const NONE_YET: Times = Times {
-        library: f64::INFINITY,
-        twin: f64::INFINITY,
-    };
+    pub const NONE_YET: Times = Times([f64::INFINITY; SIDES.len()]);
 
-    pub fn ratio(&self) -> f64 {
-        self.library / self.twin
+    pub fn of(&self, side: Side) -> f64 {
+        self.0[side as usize]
+    }
+
+    pub fn add(&mut self, side: Side, time: f64) {
+        let best = &mut self.0[side as usize];
+        *best = best.min(time);
+    }
+
+    /// The library's time, with that of another side as 1.
+    pub fn ratio_to(&self, side: Side) -> f64 {
+        self.of(Side::Library) / self.of(side)
     }
 }
 
@@ -46,26 +51,23 @@ pub fn warm_up(image: &[u8]) {
     }
 }
 
-/// The time of one call. Library and twin take turns, so that other work of the machine slows both.
+/// The time of one call. The sides take turns, so that other work of the machine slows all of them.
 pub fn time_call(call: &Call, image: &[u8]) -> Times {
-    let mut library = Side::new(Call::on_library, call, image);
-    let mut twin = Side::new(Call::on_twin, call, image);
-    let turn_seconds = library.batch_seconds() + twin.batch_seconds();
+    let mut sides = SIDES.map(|side| Batches::new(side, call, image));
+    let turn_seconds: f64 = sides.iter().map(Batches::batch_seconds).sum();
     let batches = ((ROW_SECONDS / turn_seconds) as usize).clamp(FEWEST_BATCHES, MOST_BATCHES);
     let mut best = Times::NONE_YET;
     for _ in 0..batches {
-        best.library = best.library.min(library.batch());
-        best.twin = best.twin.min(twin.batch());
+        for batches in &mut sides {
+            best.add(batches.side, batches.batch());
+        }
     }
     best
 }
 
-/// Makes a call, on the library or on the twin.
-type Make = fn(&Call, &mut [u8]) -> Outcome;
-
-/// One side of a comparison: a call that is made in batches.
-struct Side<'a> {
-    make: Make,
+/// A call that one side makes in batches.
+struct Batches<'a> {
+    side: Side,
     call: &'a Call,
     image: &'a [u8],
     /// What the calls of a batch work on: one copy of the image, or one for each call.
@@ -77,22 +79,23 @@ struct Side<'a> {
     estimate: f64,
 }
 
-impl<'a> Side<'a> {
-    fn new(make: Make, call: &'a Call, image: &'a [u8]) -> Side<'a> {
-        let mut side = Side {
-            make,
+impl<'a> Batches<'a> {
+    fn new(side: Side, call: &'a Call, image: &'a [u8]) -> Batches<'a> {
+        let mut batches = Batches {
+            side,
             call,
             image,
             copies: image.to_vec(),
-            one_copy_each: changes_a_count(make, call, image),
+            one_copy_each: changes_a_count(side, call, image),
             calls: 1,
             estimate: f64::INFINITY,
         };
         for _ in 0..3 {
-            side.estimate = side.estimate.min(side.batch());
+            batches.estimate = batches.estimate.min(batches.batch());
         }
-        side.calls = ((BATCH_SECONDS / side.estimate) as usize).clamp(1, side.most_calls());
-        side
+        let calls = (BATCH_SECONDS / batches.estimate) as usize;
+        batches.calls = calls.clamp(1, batches.most_calls());
+        batches
     }
 
     fn most_calls(&self) -> usize {
@@ -120,10 +123,8 @@ impl<'a> Side<'a> {
     fn batch_on_the_same_copy(&mut self) -> Duration {
         let start = Instant::now();
         for _ in 0..self.calls {
-            black_box((self.make)(
-                black_box(self.call),
-                black_box(&mut self.copies),
-            ));
+            let copy = black_box(&mut self.copies);
+            black_box(self.side.make(black_box(self.call), copy));
         }
         start.elapsed()
     }
@@ -136,18 +137,18 @@ impl<'a> Side<'a> {
         }
         let start = Instant::now();
         for copy in self.copies.chunks_exact_mut(self.image.len()) {
-            black_box((self.make)(black_box(self.call), black_box(copy)));
+            black_box(self.side.make(black_box(self.call), black_box(copy)));
         }
         start.elapsed()
     }
 }
 
 /// Does the call add or remove a row? A second call on the same copy would then do something else.
-fn changes_a_count(make: Make, call: &Call, image: &[u8]) -> bool {
+fn changes_a_count(side: Side, call: &Call, image: &[u8]) -> bool {
     if call.only_asks() {
         return false;
     }
     let mut copy = image.to_vec();
-    make(call, &mut copy);
+    side.make(call, &mut copy);
     copy[..HEADER_BYTES] != image[..HEADER_BYTES]
 }

@@ -1,6 +1,6 @@
-//! A call with its arguments, made on the library or on the twin.
+//! A call with its arguments, made on the library, on the twin or on the yardstick.
 
-use crate::twin;
+use crate::{twin, yardstick};
 use dacm::{Flags, Item, Kind, Privileges, Refusal, Role, Subject};
 use std::ops::Range;
 
@@ -179,6 +179,42 @@ impl Call {
         };
         Outcome::new(answer.number, answer.result)
     }
+
+    /// Makes any call, on the yardstick.
+    #[rustfmt::skip]
+    pub fn on_yardstick(&self, image: &mut [u8]) -> Outcome {
+        let answer = match *self {
+            Call::Check =>
+                yardstick::check(image),
+            Call::OperationSet { subject, role } =>
+                yardstick::operation_set(image, subject, role),
+            Call::PermissionSet { subject, role, item } =>
+                yardstick::permission_set(image, subject, role, item),
+            Call::ListCount { list } =>
+                yardstick::list_count(image, list),
+            Call::LinesOf { list } =>
+                return lines_of_yardstick(image, list),
+            Call::FindEditor { list } =>
+                yardstick::find_editor(image, list),
+            Call::DefineSubject { caller, role, parent, privileges } =>
+                yardstick::define_subject(image, caller, role, parent, privileges),
+            Call::SetGrant { caller, receiver, role, domain, privileges } =>
+                yardstick::set_grant(image, caller, receiver, role, domain, privileges),
+            Call::RemoveGrant { caller, receiver, role } =>
+                yardstick::remove_grant(image, caller, receiver, role),
+            Call::SetLine { caller, role, list, kind, subject, privileges } =>
+                yardstick::set_line(image, caller, role, list, kind, subject, privileges),
+            Call::RemoveLine { caller, role, list, kind, subject } =>
+                yardstick::remove_line(image, caller, role, list, kind, subject),
+            Call::CreateItem { caller, role, list, flags } =>
+                yardstick::create_item(image, caller, role, list, flags),
+            Call::Bind { caller, item, list } =>
+                yardstick::bind(image, caller, item, list),
+            Call::HandOver { caller, item, owner } =>
+                yardstick::hand_over(image, caller, item, owner),
+        };
+        Outcome::new(answer.number, answer.result)
+    }
 }
 
 fn with_result(answer: Result<u32, Refusal>) -> Outcome {
@@ -217,10 +253,22 @@ fn lines_of_library(image: &[u8], list: u32) -> Outcome {
 }
 
 fn lines_of_twin(image: &[u8], list: u32) -> Outcome {
-    let start = twin::list_start(image, list);
     let count = twin::list_count(image, list);
+    lines_at(twin::list_start(image, list), count.number, count.result)
+}
+
+fn lines_of_yardstick(image: &[u8], list: u32) -> Outcome {
+    let count = yardstick::list_count(image, list);
+    lines_at(
+        yardstick::list_start(image, list),
+        count.number,
+        count.result,
+    )
+}
+
+fn lines_at(start: usize, number: u32, count: u32) -> Outcome {
     Outcome {
-        slice: start..start + 16 * count.result as usize,
-        ..Outcome::new(count.number, 0)
+        slice: start..start + 16 * count as usize,
+        ..Outcome::new(number, 0)
     }
 }

@@ -1,11 +1,12 @@
-//! A call on the library and on the twin, with everything that it answers and leaves compared.
+//! A call on the library, on the twin and on the yardstick, with everything that it answers and
+//! leaves compared.
 
 use super::call::{Call, Outcome};
 use crate::twin;
 
-/// Makes the call on the library and on the twin. Both must answer the same and leave the same
-/// bytes. If the call is refused or only asks, these must be the bytes from before. Afterwards the
-/// image is as the call left it.
+/// Makes the call on the library, on the twin and on the yardstick. All must answer the same and
+/// leave the same bytes. If the call is refused or only asks, these must be the bytes from before.
+/// Afterwards the image is as the call left it.
 pub fn compare(image: &mut [u8], call: &Call, seed: &str) -> Outcome {
     compare_made_by(image, call, seed, |image| call.on_library(image))
 }
@@ -18,14 +19,21 @@ pub fn compare_made_by(
     on_library: impl FnOnce(&mut [u8]) -> Outcome,
 ) -> Outcome {
     let before = image.to_vec();
-    let mut other = before.clone();
     let ours = on_library(image);
-    let twins = call.on_twin(&mut other);
+    let mut after = before.clone();
+    let twins = call.on_twin(&mut after);
     assert!(
         agree(&before, call, &ours, &twins),
         "{seed}: {call:?} answers {ours:?}, the twin {twins:?}"
     );
-    assert_same_bytes(image, &other, call, seed, "the twin leaves");
+    assert_same_bytes(image, &after, call, seed, "the twin leaves");
+    after.copy_from_slice(&before);
+    let yardsticks = call.on_yardstick(&mut after);
+    assert!(
+        agree(&before, call, &yardsticks, &twins),
+        "{seed}: {call:?} answers {ours:?}, the yardstick {yardsticks:?}"
+    );
+    assert_same_bytes(image, &after, call, seed, "the yardstick leaves");
     if ours.number != 0 || call.only_asks() {
         assert_same_bytes(image, &before, call, seed, "there was");
     }
@@ -33,22 +41,25 @@ pub fn compare_made_by(
 }
 
 /// If there are several editors, it is undecided which of them is named: any of them is right.
-fn agree(image: &[u8], call: &Call, ours: &Outcome, twins: &Outcome) -> bool {
+fn agree(image: &[u8], call: &Call, outcome: &Outcome, twins: &Outcome) -> bool {
     match *call {
-        Call::FindEditor { list } if ours.number == 0 => {
-            twins.number == 0 && twin::is_editor(image, list, ours.result)
+        Call::FindEditor { list } if outcome.number == 0 => {
+            twins.number == 0 && twin::is_editor(image, list, outcome.result)
         }
-        _ => ours == twins,
+        _ => outcome == twins,
     }
 }
 
 fn assert_same_bytes(image: &[u8], other: &[u8], call: &Call, seed: &str, said: &str) {
+    // Comparing whole slices is much quicker than looking for the byte that differs.
+    if image == other {
+        return;
+    }
     assert_eq!(image.len(), other.len(), "{seed}: {call:?}: two lengths");
     let differ = image.iter().zip(other).position(|(ours, its)| ours != its);
-    if let Some(byte) = differ {
-        panic!(
-            "{seed}: {call:?} leaves {} in byte {byte}, where {said} {}",
-            image[byte], other[byte]
-        );
-    }
+    let byte = differ.expect("slices of one length that are not equal");
+    panic!(
+        "{seed}: {call:?} leaves {} in byte {byte}, where {said} {}",
+        image[byte], other[byte]
+    );
 }

@@ -1,6 +1,6 @@
 #![allow(dead_code)] // a test program may use only some of this
 //! What the tests share: images built from rows, random ones, damaged ones, and calls made on the
-//! library and on the twin.
+//! library, on the twin and on the yardstick.
 //!
 //! Everything random starts from a seed. The seeds are the same in every run, and a failure message
 //! prints its seed.
@@ -12,6 +12,7 @@ pub mod compare;
 pub mod coverage;
 pub mod damage;
 pub mod libraries;
+pub mod program;
 pub mod random;
 pub mod sample;
 pub mod tables;

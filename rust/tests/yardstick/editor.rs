@@ -1,0 +1,79 @@
+//! The search for an editor of a list. Only lines that give the right to edit are followed, so that
+//! nothing is worked out for subjects that no such line can reach.
+
+use super::list::List;
+use super::rows::{Item, Line, CUSTODIAN, EDIT_LIST};
+use super::tables::Tables;
+
+/// A subject other than the custodian that may edit the list, if there is one. The list is an item
+/// here: the lines of its own list decide.
+pub fn find(tables: &Tables, item: Item) -> Option<u32> {
+    let search = Search {
+        tables,
+        owner: item.owner,
+        list: tables.list_of(item),
+    };
+    if search.list.everyone.is_some_and(gives) {
+        return search.any_able();
+    }
+    search
+        .by_owner_line()
+        .or_else(|| search.by_own_line())
+        .or_else(|| search.by_group_line())
+}
+
+fn gives(privileges: u32) -> bool {
+    privileges & EDIT_LIST != 0
+}
+
+struct Search<'a> {
+    tables: &'a Tables<'a>,
+    owner: u32,
+    list: List<'a>,
+}
+
+impl Search<'_> {
+    /// A line can make an editor only of a subject that has the right by its own row.
+    fn is_able(&self, subject: u32) -> bool {
+        subject != CUSTODIAN && gives(self.tables.subject(subject).privileges)
+    }
+
+    fn any_able(&self) -> Option<u32> {
+        (0..self.tables.subject_count()).find(|&subject| self.is_able(subject))
+    }
+
+    fn by_owner_line(&self) -> Option<u32> {
+        let given = self.list.owner.is_some_and(gives);
+        (given && self.is_able(self.owner)).then_some(self.owner)
+    }
+
+    /// The owner's own line does not count.
+    fn by_own_line(&self) -> Option<u32> {
+        let mut lines = self.list.own().iter().map(Line::of);
+        let named = lines.find(|line| {
+            gives(line.privileges) && line.subject != self.owner && self.is_able(line.subject)
+        });
+        named.map(|line| line.subject)
+    }
+
+    /// One pass from the top: what the groups give a subject is known before anybody below it is
+    /// looked at.
+    fn by_group_line(&self) -> Option<u32> {
+        let mut lines = self.list.groups().iter().map(Line::of).peekable();
+        if !lines.clone().any(|line| gives(line.privileges)) {
+            return None;
+        }
+        let tree = self.tables.tree();
+        let mut given_below = Vec::with_capacity(self.tables.subjects.used.len());
+        for subject in 0..self.tables.subject_count() {
+            let above = subject != CUSTODIAN && given_below[tree.parent(subject) as usize];
+            let by_groups = || self.list.direct_line(subject, self.owner).is_none();
+            if above && self.is_able(subject) && by_groups() {
+                return Some(subject);
+            }
+            let line = lines.next_if(|line| line.subject == subject);
+            given_below.push(line.map_or(above, |line| gives(line.privileges)));
+        }
+        None
+    }
+}

@@ -1,0 +1,87 @@
+#![allow(dead_code)]
+//! A third implementation of the access tables, written from the paper too, for speed.
+//!
+//! It is the benchmark's yardstick: how fast these calls can be. Tests hold it to the same answers
+//! as the library and the twin, and it shares no code and no type with either. A test program may
+//! use only some of the calls, hence the attributes here.
+//!
+//! What makes it quick is said where it is done: in `opening` for the check, in `tree` for climbs,
+//! in `list` and `editor` for the lines, in `sets` and `text` for the report.
+
+mod asking;
+mod changing;
+mod editor;
+mod list;
+mod opening;
+mod permission;
+mod report;
+mod rows;
+mod sets;
+mod tables;
+mod text;
+mod tree;
+mod writing;
+
+#[allow(unused_imports)]
+pub use asking::{check, find_editor, list_count, list_start, operation_set, permission_set};
+#[allow(unused_imports)]
+pub use changing::{
+    bind, create_item, define_subject, hand_over, remove_grant, remove_line, set_grant, set_line,
+};
+#[allow(unused_imports)]
+pub use report::report;
+
+/// What a call answers: number 0 and its result, or the number of a question and result 0.
+#[derive(Clone, Copy, Debug, PartialEq, Eq)]
+pub struct Answer {
+    pub number: u32,
+    pub result: u32,
+}
+
+/// A call's result, or the first question that is answered no.
+type Asked<T> = Result<T, Question>;
+
+impl Answer {
+    fn to(call: impl FnOnce() -> Asked<u32>) -> Answer {
+        match call() {
+            Ok(result) => Answer { number: 0, result },
+            Err(question) => Answer {
+                number: question as u32,
+                result: 0,
+            },
+        }
+    }
+}
+
+/// The paper's questions, by their numbers.
+#[derive(Clone, Copy)]
+enum Question {
+    Length = 1,
+    Layout = 2,
+    Subjects = 3,
+    Items = 4,
+    Lines = 5,
+    Grants = 6,
+    UnusedRows = 7,
+    Caller = 10,
+    OtherSubjects = 11,
+    Item = 12,
+    List = 13,
+    Range = 14,
+    Right = 15,
+    Reach = 16,
+    RowThere = 17,
+    Grantor = 18,
+    FreeRow = 19,
+    Editor = 20,
+}
+
+impl Question {
+    fn ask(self, yes: bool) -> Asked<()> {
+        if yes {
+            Ok(())
+        } else {
+            Err(self)
+        }
+    }
+}

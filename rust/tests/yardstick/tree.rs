@@ -1,0 +1,151 @@
+//! Who is below whom. Every parent has a lower number than its children, so a climb ends.
+
+use super::rows::{Subject, SubjectRow};
+
+/// Climbs of at most so many steps are just made, and not counted.
+const SHORT_CLIMB: usize = 8;
+
+/// Steps through a run of subjects that take as long as one step elsewhere.
+const RUN_STEPS: usize = 4;
+
+/// An index takes about as long as this many steps for each subject.
+const INDEX_STEPS: usize = 3;
+
+/// The subjects of an accepted image, by their parents.
+#[derive(Clone, Copy)]
+pub struct Tree<'a> {
+    subjects: &'a [SubjectRow],
+}
+
+impl<'a> Tree<'a> {
+    pub fn of(subjects: &'a [SubjectRow]) -> Tree<'a> {
+        Tree { subjects }
+    }
+
+    pub fn len(self) -> usize {
+        self.subjects.len()
+    }
+
+    #[inline]
+    pub fn parent(self, subject: u32) -> u32 {
+        Subject::of(&self.subjects[subject as usize]).parent
+    }
+
+    /// Is the subject the head or below it?
+    pub fn is_in(self, subject: u32, head: u32) -> bool {
+        self.climb(subject, head) == head
+    }
+
+    /// From a subject upward, the first number that is not above the bound.
+    #[inline]
+    pub fn climb(self, from: u32, bound: u32) -> u32 {
+        self.climb_counting(from, bound, &mut 0)
+    }
+
+    /// The same. If the climb is long, adds its steps to those counted already.
+    #[inline]
+    fn climb_counting(self, from: u32, bound: u32, steps: &mut usize) -> u32 {
+        let mut reached = from;
+        for _ in 0..SHORT_CLIMB {
+            if reached <= bound {
+                return reached;
+            }
+            reached = self.parent(reached);
+        }
+        self.climb_far(reached, bound, steps)
+    }
+
+    /// Looks out for runs, in which each subject is directly below the one before it.
+    #[cold]
+    fn climb_far(self, from: u32, bound: u32, steps: &mut usize) -> u32 {
+        let mut reached = from;
+        while reached > bound {
+            let parent = self.parent(reached);
+            *steps += 1;
+            reached = if parent + 1 == reached {
+                self.climb_run(parent, bound, steps)
+            } else {
+                parent
+            };
+        }
+        reached
+    }
+
+    /// Climbs to where a run ends. Its rows are read one after the other: where the next row is does
+    /// not depend on the parent in this one, so the processor need not wait for it.
+    fn climb_run(self, from: u32, bound: u32, steps: &mut usize) -> u32 {
+        let rows = &self.subjects[bound as usize + 1..=from as usize];
+        let is_run = |(before, row): &(u32, &SubjectRow)| Subject::of(row).parent == *before;
+        let run = (bound..from).zip(rows).rev().take_while(is_run).count();
+        *steps += run / RUN_STEPS;
+        from - run as u32
+    }
+
+    /// Two passes: the sizes of all trees from the bottom, then their places from the top.
+    #[cold]
+    fn index(self) -> Index {
+        let parents = || {
+            self.subjects
+                .iter()
+                .map(|row| Subject::of(row).parent as usize)
+        };
+        let mut sizes = vec![1; self.subjects.len()];
+        for (subject, parent) in parents().enumerate().skip(1).rev() {
+            sizes[parent] += sizes[subject];
+        }
+        let mut places = vec![0; sizes.len()];
+        // The place of the next tree below each subject.
+        let mut next = vec![1; sizes.len()];
+        for (subject, parent) in parents().enumerate().skip(1) {
+            places[subject] = next[parent];
+            next[parent] += sizes[subject];
+            next[subject] = places[subject] + 1;
+        }
+        Index { places, sizes }
+    }
+}
+
+/// Many questions about one tree. Climbing is the quickest way to answer a few, or if the climbs are
+/// short. Once they have taken about as long as an index would, an index answers the others.
+pub struct Climbs<'a> {
+    tree: Tree<'a>,
+    steps: usize,
+    index: Option<Index>,
+}
+
+impl<'a> Climbs<'a> {
+    pub fn new(tree: Tree<'a>) -> Climbs<'a> {
+        Climbs {
+            tree,
+            steps: 0,
+            index: None,
+        }
+    }
+
+    /// Is the subject the head or below it?
+    #[inline]
+    pub fn is_in(&mut self, subject: u32, head: u32) -> bool {
+        if let Some(index) = &self.index {
+            return index.is_in(subject, head);
+        }
+        let reached = self.tree.climb_counting(subject, head, &mut self.steps);
+        if self.steps > INDEX_STEPS * self.tree.len() {
+            self.index = Some(self.tree.index());
+        }
+        reached == head
+    }
+}
+
+/// The subjects in an order in which each tree stands together, its head first.
+struct Index {
+    places: Vec<u32>,
+    sizes: Vec<u32>,
+}
+
+impl Index {
+    fn is_in(&self, subject: u32, head: u32) -> bool {
+        let place = self.places[subject as usize];
+        let from_head = place.wrapping_sub(self.places[head as usize]);
+        from_head < self.sizes[head as usize]
+    }
+}
