@@ -159,12 +159,19 @@ thread_local! {
 
 /// Does something that may end in a fault. The message of the fault then names the case.
 fn during<R>(case: &str, act: impl FnOnce() -> R) -> R {
-    // SAFETY: the reference is replaced below, while the case still exists. Only after a panic in
-    // `act` it is not, and then the test has failed already.
+    /// Also where `act` panics, the case is forgotten before it ends.
+    struct Forget;
+
+    impl Drop for Forget {
+        fn drop(&mut self) {
+            CASE.set("nothing");
+        }
+    }
+
+    let _forget = Forget;
+    // SAFETY: the reference is replaced when this function ends, and the case outlives that.
     CASE.set(unsafe { &*ptr::from_ref(case) });
-    let result = act();
-    CASE.set("nothing");
-    result
+    act()
 }
 
 /// From now on, a fault prints its case before it ends the program.
