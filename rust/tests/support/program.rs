@@ -7,8 +7,8 @@ use std::sync::mpsc;
 use std::thread;
 use std::time::{Duration, Instant};
 
-/// Runs the program and compares what it prints with the text. The program may stop reading before
-/// all is written to it; this is no fault.
+/// Runs the program and compares what it prints with the text. An error says what is wrong. The
+/// program may stop reading before all is written to it; this is no fault.
 pub fn compare_printed(
     program: &mut Command,
     input: &[u8],
@@ -24,13 +24,9 @@ pub fn compare_printed(
     write_in_background(&mut child, input);
     let most = text.len() as u64 + 1;
     let printed = read_until(&mut child, most, deadline);
-    let may_go_on = printed
-        .as_ref()
-        .is_some_and(|printed| printed.len() <= text.len());
-    let status = if may_go_on {
-        end_until(&mut child, deadline)
-    } else {
-        None
+    let status = match &printed {
+        Some(printed) if printed.len() <= text.len() => end_until(&mut child, deadline),
+        _ => None,
     };
     if status.is_none() {
         kill(&mut child);

@@ -72,12 +72,16 @@ impl<'a> List<'a> {
     }
 
     /// The group line of the nearest subject above that has one. Going up, numbers fall: so one climb
-    /// passes the group lines once, from the last to the first.
+    /// passes the group lines once, from that of the parent down to the first.
     fn group_line(&self, tree: Tree, subject: u32) -> Option<u32> {
-        let key = run_key(self.number, GROUP);
         let mut reached = tree.parent(subject);
-        for line in self.lines.iter().rev().map(Line::of) {
-            if line.run() != key {
+        let parents = line_key(self.number, GROUP, reached);
+        let end = self
+            .lines
+            .partition_point(|row| Line::of(row).key() <= parents);
+        let run = run_key(self.number, GROUP);
+        for line in self.lines[..end].iter().rev().map(Line::of) {
+            if line.run() != run {
                 return None;
             }
             reached = tree.climb(reached, line.subject);

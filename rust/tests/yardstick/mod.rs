@@ -1,12 +1,12 @@
 #![allow(dead_code)]
 //! A third implementation of the access tables, written from the paper too, for speed.
 //!
-//! It is the benchmark's yardstick: how fast these calls can be. Tests hold it to the same answers
-//! as the library and the twin, and it shares no code and no type with either. A test program may
-//! use only some of the calls, hence the attributes here.
+//! It is the yardstick of the benchmark: how fast these calls can be in Rust. Tests hold it to the
+//! same answers as the library and the twin. It shares no code and no type with either. A test
+//! program may use only some of the calls, hence the attributes here.
 //!
-//! What makes it quick is said where it is done: in `opening` for the check, in `tree` for climbs,
-//! in `list` and `editor` for the lines, in `sets` and `text` for the report.
+//! What makes it quick is said where it is done: in `opening` for the check, in `tree` for climbs, in
+//! `list` and `editor` for lines, in `sets` and `text` for the report.
 
 mod asking;
 mod changing;

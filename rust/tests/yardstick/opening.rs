@@ -1,11 +1,12 @@
 //! Questions 1 to 7, with which every call begins. Most calls take most of their time here.
 //!
-//! A rule that is broken anywhere in a table gives the table's number. So each pass gathers its
-//! rules in one truth value, without a branch for each field.
+//! Each table is passed once. Which rule a row breaks does not matter, so a pass gathers what it can
+//! and looks at it only at the end; it has few branches. The passes are functions of their own, never
+//! inlined, so that each loop has all registers to itself.
 
 use super::rows::{
-    Grant, GrantRow, Item, ItemRow, Line, LineRow, Row, Subject, SubjectRow, EVERYONE, GROUP,
-    HIGHEST_FLAGS, IS_LIST, NO_LIST, NO_ROLE,
+    run_key, Grant, GrantRow, Item, ItemRow, Line, LineRow, Row, Subject, SubjectRow, EVERYONE,
+    GROUP, HIGHEST_FLAGS, IS_LIST, ITSELF, NO_LIST, NO_ROLE,
 };
 use super::tables::{item_index, Tables, HEADER_BYTES};
 use super::tree::{Climbs, Tree};
@@ -16,7 +17,8 @@ const LONGEST: usize = 65_536;
 /// Unused rows that are looked at in one step, without a branch for each.
 const STEP: usize = 8;
 
-/// The tables of an accepted image.
+/// The tables of an accepted image. Always inlined: there is one use in each call, and small images
+/// would pay for passing the tables through memory.
 #[inline(always)]
 pub fn open(image: &[u8]) -> Asked<Tables<'_>> {
     Question::Length.ask((HEADER_BYTES..=LONGEST).contains(&image.len()))?;
@@ -31,72 +33,58 @@ pub fn open(image: &[u8]) -> Asked<Tables<'_>> {
     Ok(tables)
 }
 
-/// Gathers rules of the form "this number is below that one", without a branch for each. Taken in 64
-/// bits, a difference below zero has the highest bit.
-#[derive(Default)]
-struct Order(u64);
-
-impl Order {
-    #[inline]
-    fn demand_below(&mut self, low: u32, high: u32) {
-        self.0 |= (high as u64).wrapping_sub(low as u64 + 1);
-    }
-
-    fn holds(&self) -> bool {
-        self.0 >> 63 == 0
-    }
-}
-
+/// What a subject has beyond its creator is gathered from all subjects.
 #[inline(never)]
 fn subjects_hold(subjects: &[SubjectRow]) -> bool {
     const CUSTODIANS_ROW: SubjectRow = [[0; 4], [0xff; 4], [0; 4]];
     if subjects[0] != CUSTODIANS_ROW {
         return false;
     }
-    let mut order = Order::default();
     let mut beyond_creators = 0;
-    for (number, row) in subjects.iter().enumerate().skip(1) {
-        let subject = Subject::of(row);
-        order.demand_below(subject.parent, number as u32);
-        let Some(creator) = subjects[..number].get(subject.creator as usize) else {
+    for number in 1..subjects.len() as u32 {
+        let subject = Subject::of(&subjects[number as usize]);
+        if subject.parent >= number || subject.creator >= number {
             return false;
-        };
-        beyond_creators |= subject.privileges & !Subject::of(creator).privileges;
+        }
+        let creator = Subject::of(&subjects[subject.creator as usize]);
+        beyond_creators |= subject.privileges & !creator.privileges;
     }
-    order.holds() && beyond_creators == 0
+    beyond_creators == 0
 }
 
+/// Flags are gathered: all bits that some item has, and those that every item named as list has.
 #[inline(never)]
 fn items_hold(items: &[ItemRow], subjects: u32) -> bool {
-    let mut some_flags = 0;
+    let mut flags_of_some_item = 0;
     let mut flags_of_every_list = IS_LIST;
     for row in items {
         let item = Item::of(row);
         if item.owner >= subjects {
             return false;
         }
-        some_flags |= item.flags;
+        flags_of_some_item |= item.flags;
         match items.get(item_index(item.list)) {
             Some(list) => flags_of_every_list &= Item::of(list).flags,
             None if item.list == NO_LIST => (),
             None => return false,
         }
     }
-    some_flags <= HIGHEST_FLAGS && flags_of_every_list == IS_LIST
+    flags_of_some_item <= HIGHEST_FLAGS && flags_of_every_list == IS_LIST
 }
 
 /// Lines of one list and kind stand together, in a run. So the list and the kind are looked at only
-/// where a run begins. As the subjects ascend, only a run's last one can be too high.
+/// where a run begins. Within a run the subjects ascend, so only the last one can be too high. The
+/// differences of neighbours are gathered: one below zero has the highest of 64 bits.
 #[inline(never)]
 fn lines_hold(lines: &[LineRow], items: &[ItemRow], subjects: u32) -> bool {
-    let mut run = 0;
-    let mut bound = 1;
-    let mut last = 0;
-    let mut order = Order::default();
+    // As if there were a line of list 0 before the first. No other line of list 0 can follow: it would
+    // need a subject above 0 and below 1.
+    let (mut run, mut last, mut bound) = (run_key(NO_LIST, ITSELF), 0, 1);
+    let mut differences = 0;
     for row in lines {
         let line = Line::of(row);
         if line.run() == run {
-            order.demand_below(last, line.subject);
+            differences |= (line.subject as u64).wrapping_sub(last as u64 + 1);
         } else {
             if line.run() < run || last >= bound || !may_begin_run(line, items) {
                 return false;
@@ -106,7 +94,8 @@ fn lines_hold(lines: &[LineRow], items: &[ItemRow], subjects: u32) -> bool {
         }
         last = line.subject;
     }
-    order.holds() && last < bound
+    let ascending = differences >> 63 == 0;
+    ascending && last < bound
 }
 
 fn may_begin_run(line: Line, items: &[ItemRow]) -> bool {

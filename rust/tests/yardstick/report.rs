@@ -15,52 +15,72 @@ pub fn report(image: &[u8], out: &mut impl Write) -> Result<()> {
     }
 }
 
-/// An item, ready to be printed.
-struct PrintedItem {
-    number: Text,
-    owner: u32,
-    column: usize,
-}
-
-/// A line costs three copies. A set's digits are made only where a subject's set in a column differs
-/// from that of the subject before.
+/// A line costs three copies of texts that were made before.
 fn report_sets(tables: Tables, out: &mut impl Write) -> Result<()> {
     out.write_all(b"subject item set\n")?;
     let sets = Sets::new(tables);
-    let items = printed_items(tables, &sets.columns());
-    let mut of_subject = vec![0; sets.column_count()];
-    let mut printed = vec![(0, Text::new(0, b'\n')); sets.column_count()];
+    let items = items_with_text(tables, &sets.columns());
+    let mut columns = ColumnTexts::new(sets.column_count());
     let mut lines = Lines::new(out);
     for subject in 0..tables.subject_count() {
-        sets.write(subject, &mut of_subject);
-        for ((number, text), &set) in printed.iter_mut().zip(&of_subject) {
-            if *number != set {
-                (*number, *text) = (set, Text::new(set, b'\n'));
-            }
-        }
-        let subjects_number = Text::new(subject, b' ');
+        let number = Text::new(subject, b' ');
+        columns.turn_to(subject, &sets);
         for item in &items {
+            let owned;
+            let mut set = &columns.texts[item.column];
             if item.owner == subject {
-                let set = Text::new(sets.owned(subject, item.column), b'\n');
-                lines.put([&subjects_number, &item.number, &set])?;
-            } else {
-                let (_, set) = &printed[item.column];
-                lines.put([&subjects_number, &item.number, set])?;
+                owned = Text::new(sets.owned(subject, item.column), b'\n');
+                set = &owned;
             }
+            lines.put([&number, &item.number, set])?;
         }
     }
     lines.flush()
 }
 
-fn printed_items(tables: Tables, columns: &[usize]) -> Vec<PrintedItem> {
-    let rows = (1..).zip(tables.items.used);
-    rows.map(|(number, row)| {
+struct ItemWithText {
+    number: Text,
+    owner: u32,
+    column: usize,
+}
+
+fn items_with_text(tables: Tables, columns: &[usize]) -> Vec<ItemWithText> {
+    let with_text = |(number, row)| {
         let item = Item::of(row);
-        PrintedItem {
+        ItemWithText {
             number: Text::new(number, b' '),
             owner: item.owner,
             column: columns[item.list as usize],
         }
-    })
-    .collect()
+    };
+    (1..).zip(tables.items.used).map(with_text).collect()
+}
+
+/// The sets of one subject and their texts, by column.
+struct ColumnTexts {
+    sets: Vec<u32>,
+    texts: Vec<Text>,
+    next_sets: Vec<u32>,
+}
+
+impl ColumnTexts {
+    fn new(columns: usize) -> ColumnTexts {
+        ColumnTexts {
+            sets: vec![0; columns],
+            texts: vec![Text::new(0, b'\n'); columns],
+            next_sets: vec![0; columns],
+        }
+    }
+
+    /// Many sets are the same as those of the subject before, and so are their texts.
+    fn turn_to(&mut self, subject: u32, sets: &Sets) {
+        sets.write(subject, &mut self.next_sets);
+        let columns = self.sets.iter_mut().zip(&mut self.texts);
+        for ((set, text), &next) in columns.zip(&self.next_sets) {
+            if *set != next {
+                *set = next;
+                *text = Text::new(next, b'\n');
+            }
+        }
+    }
 }

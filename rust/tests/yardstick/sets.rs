@@ -123,7 +123,8 @@ impl BySubject {
 }
 
 /// What the groups give. Subjects that are below the same heads of groups share a row of privileges,
-/// one for each column; so there are at most as many rows as heads, and one for those below none.
+/// one for each column. So there is a row for each head and one for those below none, which is at most
+/// 11 MB: an image has room for some 1,600 heads and as many lists.
 struct Groups {
     columns: usize,
     rows: Vec<u32>,

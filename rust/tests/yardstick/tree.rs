@@ -5,8 +5,8 @@ use super::rows::{Subject, SubjectRow};
 /// Climbs of at most so many steps are just made, and not counted.
 const SHORT_CLIMB: usize = 8;
 
-/// Steps through a run of subjects that take as long as one step elsewhere.
-const RUN_STEPS: usize = 4;
+/// Steps up a chain that take as long as one step elsewhere.
+const CHAIN_STEPS: usize = 4;
 
 /// An index takes about as long as this many steps for each subject.
 const INDEX_STEPS: usize = 3;
@@ -55,7 +55,7 @@ impl<'a> Tree<'a> {
         self.climb_far(reached, bound, steps)
     }
 
-    /// Looks out for runs, in which each subject is directly below the one before it.
+    /// Looks out for chains, in which each subject is directly below the one before it.
     #[cold]
     fn climb_far(self, from: u32, bound: u32, steps: &mut usize) -> u32 {
         let mut reached = from;
@@ -63,7 +63,7 @@ impl<'a> Tree<'a> {
             let parent = self.parent(reached);
             *steps += 1;
             reached = if parent + 1 == reached {
-                self.climb_run(parent, bound, steps)
+                self.climb_chain(parent, bound, steps)
             } else {
                 parent
             };
@@ -71,34 +71,36 @@ impl<'a> Tree<'a> {
         reached
     }
 
-    /// Climbs to where a run ends. Its rows are read one after the other: where the next row is does
+    /// Climbs to where a chain ends. Its rows are read one after the other: where the next row is does
     /// not depend on the parent in this one, so the processor need not wait for it.
-    fn climb_run(self, from: u32, bound: u32, steps: &mut usize) -> u32 {
+    fn climb_chain(self, from: u32, bound: u32, steps: &mut usize) -> u32 {
         let rows = &self.subjects[bound as usize + 1..=from as usize];
-        let is_run = |(before, row): &(u32, &SubjectRow)| Subject::of(row).parent == *before;
-        let run = (bound..from).zip(rows).rev().take_while(is_run).count();
-        *steps += run / RUN_STEPS;
-        from - run as u32
+        let below_before = |(before, row): &(u32, &SubjectRow)| Subject::of(row).parent == *before;
+        let climbed = (bound..from)
+            .zip(rows)
+            .rev()
+            .take_while(below_before)
+            .count();
+        *steps += climbed / CHAIN_STEPS;
+        from - climbed as u32
     }
 
     /// Two passes: the sizes of all trees from the bottom, then their places from the top.
     #[cold]
     fn index(self) -> Index {
-        let parents = || {
-            self.subjects
-                .iter()
-                .map(|row| Subject::of(row).parent as usize)
-        };
-        let mut sizes = vec![1; self.subjects.len()];
-        for (subject, parent) in parents().enumerate().skip(1).rev() {
-            sizes[parent] += sizes[subject];
+        let subjects = 1..self.len();
+        let parent = |subject| self.parent(subject as u32) as usize;
+        let mut sizes = vec![1; self.len()];
+        for subject in subjects.clone().rev() {
+            sizes[parent(subject)] += sizes[subject];
         }
-        let mut places = vec![0; sizes.len()];
-        // The place of the next tree below each subject.
-        let mut next = vec![1; sizes.len()];
-        for (subject, parent) in parents().enumerate().skip(1) {
-            places[subject] = next[parent];
-            next[parent] += sizes[subject];
+        let mut places = vec![0; self.len()];
+        // For each subject, the place of the next tree directly below it.
+        let mut next = vec![1; self.len()];
+        for subject in subjects {
+            let place = &mut next[parent(subject)];
+            places[subject] = *place;
+            *place += sizes[subject];
             next[subject] = places[subject] + 1;
         }
         Index { places, sizes }
