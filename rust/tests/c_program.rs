@@ -53,7 +53,7 @@ fn assert_readme_runs(name: &str, library: &[String]) {
     );
 }
 
-/// What a compiler is told to find header and archive where they are built.
+/// The arguments by which a compiler finds header and archive where they are built.
 fn built() -> Vec<String> {
     let include = here().join("../include");
     vec![

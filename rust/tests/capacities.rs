@@ -169,7 +169,7 @@ fn filled_to_the_last_row() {
     assert_eq!([subjects, grants, lines, items], [3, 2, 3, 5]);
 }
 
-/// How often a call adds a row before the table is full. The call is told how many it has added.
+/// How often a call adds a row before the table is full. The call gets the number of rows that it has added.
 fn rows_until_full(mut add: impl FnMut(u32) -> Result<(), Refusal>) -> u32 {
     let mut added = 0;
     loop {

@@ -3,7 +3,7 @@
 use super::rows::{Grant, Item, ALL, CUSTODIAN};
 use super::tables::Tables;
 
-/// The subject's privileges, with those of the grant that its grantor also has.
+/// The subject's own row, and of the grant what its grantor's row has too.
 pub fn operation_set(tables: &Tables, subject: u32, grant: Option<Grant>) -> u32 {
     let own = tables.subject(subject).privileges;
     let lent = grant.map_or(0, |grant| {

@@ -105,12 +105,12 @@ impl BySubject {
         let mut next = starts.clone();
         for (column, lines) in (0..).zip(lists) {
             for line in lines.iter().map(Line::of) {
-                let place = &mut next[line.subject as usize];
-                entries[*place] = Entry {
+                let index = &mut next[line.subject as usize];
+                entries[*index] = Entry {
                     column,
                     privileges: line.privileges,
                 };
-                *place += 1;
+                *index += 1;
             }
         }
         BySubject { entries, starts }
@@ -124,7 +124,7 @@ impl BySubject {
 
 /// What the groups give. Subjects that are below the same heads of groups share a row of privileges,
 /// one for each column. So there is a row for each head and one for those below none, which is at most
-/// 11 MB: an image has room for some 1,600 heads and as many lists.
+/// 11 MB: an image holds some 1,600 heads and as many lists at most.
 struct Groups {
     columns: usize,
     rows: Vec<u32>,

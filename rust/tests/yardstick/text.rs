@@ -5,7 +5,7 @@ use std::io::{Result, Write};
 /// The bytes that are copied for a text, however short it is: copies of a fixed size are quick.
 const TEXT_BYTES: usize = 16;
 
-/// Room for the three texts of a line.
+/// Enough for the three texts of a line.
 const LINE_BYTES: usize = 3 * TEXT_BYTES;
 
 const BLOCK_BYTES: usize = 64 * 1024;
@@ -52,7 +52,7 @@ impl Text {
         }
     }
 
-    /// At most 11. Taking it modulo 16 changes nothing, but shows the compiler that a line has room.
+    /// At most 11. Taking it modulo 16 changes nothing, but shows the compiler that the text fits into a line.
     #[inline]
     fn length(&self) -> usize {
         self.length as usize % TEXT_BYTES

@@ -85,7 +85,7 @@ impl<'a> Tree<'a> {
         from - climbed as u32
     }
 
-    /// Two passes: the sizes of all trees from the bottom, then their places from the top.
+    /// Two passes: the sizes of all trees from the bottom, then the ordinals from the top.
     #[cold]
     fn index(self) -> Index {
         let subjects = 1..self.len();
@@ -94,16 +94,16 @@ impl<'a> Tree<'a> {
         for subject in subjects.clone().rev() {
             sizes[parent(subject)] += sizes[subject];
         }
-        let mut places = vec![0; self.len()];
-        // For each subject, the place of the next tree directly below it.
+        let mut ordinals = vec![0; self.len()];
+        // For each subject, the ordinal of the next tree directly below it.
         let mut next = vec![1; self.len()];
         for subject in subjects {
-            let place = &mut next[parent(subject)];
-            places[subject] = *place;
-            *place += sizes[subject];
-            next[subject] = places[subject] + 1;
+            let ordinal = &mut next[parent(subject)];
+            ordinals[subject] = *ordinal;
+            *ordinal += sizes[subject];
+            next[subject] = ordinals[subject] + 1;
         }
-        Index { places, sizes }
+        Index { ordinals, sizes }
     }
 }
 
@@ -138,16 +138,17 @@ impl<'a> Climbs<'a> {
     }
 }
 
-/// The subjects in an order in which each tree stands together, its head first.
+/// The subjects in an order in which each tree stands together, its head first: where each subject
+/// comes in that order, and how many are in its tree.
 struct Index {
-    places: Vec<u32>,
+    ordinals: Vec<u32>,
     sizes: Vec<u32>,
 }
 
 impl Index {
     fn is_in(&self, subject: u32, head: u32) -> bool {
-        let place = self.places[subject as usize];
-        let from_head = place.wrapping_sub(self.places[head as usize]);
+        let ordinal = self.ordinals[subject as usize];
+        let from_head = ordinal.wrapping_sub(self.ordinals[head as usize]);
         from_head < self.sizes[head as usize]
     }
 }

@@ -2,21 +2,21 @@
 
 use super::rows::Row;
 
-/// A table by its place in the header, which has a count and an offset for each.
+/// A table by its index in the header, which has a count and an offset for each.
 pub struct Table<const FIELDS: usize> {
-    place: usize,
+    index_in_header: usize,
 }
 
-pub const SUBJECTS: Table<3> = Table { place: 0 };
-pub const GRANTS: Table<5> = Table { place: 1 };
-pub const LINES: Table<4> = Table { place: 2 };
-pub const ITEMS: Table<3> = Table { place: 3 };
+pub const SUBJECTS: Table<3> = Table { index_in_header: 0 };
+pub const GRANTS: Table<5> = Table { index_in_header: 1 };
+pub const LINES: Table<4> = Table { index_in_header: 2 };
+pub const ITEMS: Table<3> = Table { index_in_header: 3 };
 
 impl<const FIELDS: usize> Table<FIELDS> {
     /// The offset of a row.
     pub fn offset(&self, image: &[u8], index: usize) -> usize {
         let (fields, _) = image.as_chunks();
-        let start = u32::from_le_bytes(fields[2 * self.place + 1]);
+        let start = u32::from_le_bytes(fields[2 * self.index_in_header + 1]);
         start as usize + 4 * FIELDS * index
     }
 
@@ -25,7 +25,7 @@ impl<const FIELDS: usize> Table<FIELDS> {
         rows[index] = row;
     }
 
-    /// Puts a row into its place. The rows from there on move up; one is free.
+    /// Puts a row at its insertion index. The rows from there on move up; one is free.
     pub fn insert(&self, image: &mut [u8], index: usize, row: Row<FIELDS>) {
         let (count, rows) = self.open(image);
         let used = u32::from_le_bytes(*count);
@@ -51,6 +51,6 @@ impl<const FIELDS: usize> Table<FIELDS> {
         let (header, _) = header.as_chunks_mut();
         let (rows, _) = rows.as_chunks_mut();
         let (rows, _) = rows.as_chunks_mut();
-        (&mut header[2 * self.place], rows)
+        (&mut header[2 * self.index_in_header], rows)
     }
 }
