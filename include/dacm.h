@@ -3,9 +3,10 @@
  *
  * The tables are kept in one image: 36 to 65,536 bytes that the host lends to every call, whatever they hold. Every
  * call takes any bytes and any numbers. It asks its questions in the order of their numbers, which are those of
- * document 01; README.md has a table of them. If all are answered yes, the call answers number 0 and its result.
- * Otherwise it answers the refusal, which is the number of the first question answered no, and result 0. A refused
- * call leaves every byte of the image as it was. A call that takes the image as const never writes it.
+ * document 01. If all are answered yes, the call answers number 0 and its result. Otherwise it answers the refusal,
+ * which is the number of the first question answered no, and result 0; the numbers have names below, and README.md says
+ * what to look at. A refused call leaves every byte of the image as it was. A call that takes the image as const never
+ * writes it.
  *
  * The host must ensure two things. `image` points to `length` bytes and is not a null pointer, not even where `length`
  * is 0. And nobody else writes these bytes during a call. Calls keep nothing between them. They may run at the same
