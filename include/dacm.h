@@ -62,7 +62,7 @@ typedef struct { uint32_t number; uint32_t result; } dacm_answer;
 #define DACM_NO_SUCH_ROW         UINT32_C(17) /* there is no such row to remove */
 #define DACM_NOT_THE_GRANTOR     UINT32_C(18) /* the grant is another grantor's */
 #define DACM_TABLE_FULL          UINT32_C(19) /* no row is free */
-#define DACM_NO_EDITOR           UINT32_C(20) /* nobody but the custodian may edit the list */
+#define DACM_NO_EDITOR           UINT32_C(20) /* without a role, nobody but the custodian may edit the list */
 
 /* Privileges: bit n of a set is position n. Positions 7 to 31 are the host's own. */
 #define DACM_READ            UINT32_C(0x01)

@@ -131,7 +131,7 @@ refusals! {
     19 TableFull: "no row is free";
 
     /// Nobody but the custodian may edit the list without claiming a role.
-    20 NoEditor: "nobody but the custodian may edit the list";
+    20 NoEditor: "without a role, nobody but the custodian may edit the list";
 }
 
 /// ```
