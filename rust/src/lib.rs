@@ -66,8 +66,9 @@
 //! into bytes that the host has.
 //!
 //! The crate links the proved static library `libdacm.a`. Where the environment variable
-//! `DACM_LIB_DIR` names a folder, it is taken from there. Otherwise it is taken from
-//! `target/staticlib` in the folder above the crate, where `make archive` builds it.
+//! `DACM_LIB_DIR` names a folder, it is taken from there; a relative path counts from the crate's
+//! folder. Otherwise it is taken from `target/staticlib` in the folder above the crate, where
+//! `make archive` builds it.
 
 #![no_std]
 #![warn(missing_docs)]
