@@ -37,11 +37,10 @@ report:
 test:
 	.ci/run
 
-# The static library of include/dacm.h: target/staticlib/libdacm.a.
-archive:
-	rt staticlib dacm
-
-target/staticlib/libdacm.a:
+# The static library of include/dacm.h. As `archive` it is always left to `rt` to see what has changed; as a file it is
+# built where it is older than its sources, so that `make install` needs no `rt` after `make archive`.
+target/staticlib/libdacm.a: crates.txt $(shell find crates -name '*.rt' -o -name '*.antt')
+archive target/staticlib/libdacm.a:
 	rt staticlib dacm
 
 install: target/staticlib/libdacm.a

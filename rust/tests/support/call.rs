@@ -43,6 +43,48 @@ impl Outcome {
     }
 }
 
+/// Makes a call on an implementation in Rust. They are modules with the same functions, and have no
+/// type in common that a function could take.
+#[rustfmt::skip]
+macro_rules! made_on {
+    ($module:ident, $call:expr, $image:expr) => {{
+        let (call, image) = ($call, $image);
+        let answer = match *call {
+            Call::Check =>
+                $module::check(image),
+            Call::OperationSet { subject, role } =>
+                $module::operation_set(image, subject, role),
+            Call::PermissionSet { subject, role, item } =>
+                $module::permission_set(image, subject, role, item),
+            Call::ListCount { list } | Call::LinesOf { list } =>
+                $module::list_count(image, list),
+            Call::FindEditor { list } =>
+                $module::find_editor(image, list),
+            Call::DefineSubject { caller, role, parent, privileges } =>
+                $module::define_subject(image, caller, role, parent, privileges),
+            Call::SetGrant { caller, receiver, role, domain, privileges } =>
+                $module::set_grant(image, caller, receiver, role, domain, privileges),
+            Call::RemoveGrant { caller, receiver, role } =>
+                $module::remove_grant(image, caller, receiver, role),
+            Call::SetLine { caller, role, list, kind, subject, privileges } =>
+                $module::set_line(image, caller, role, list, kind, subject, privileges),
+            Call::RemoveLine { caller, role, list, kind, subject } =>
+                $module::remove_line(image, caller, role, list, kind, subject),
+            Call::CreateItem { caller, role, list, flags } =>
+                $module::create_item(image, caller, role, list, flags),
+            Call::Bind { caller, item, list } =>
+                $module::bind(image, caller, item, list),
+            Call::HandOver { caller, item, owner } =>
+                $module::hand_over(image, caller, item, owner),
+        };
+        match *call {
+            Call::LinesOf { list } =>
+                lines_at($module::list_start(image, list), answer.number, answer.result),
+            _ => Outcome::new(answer.number, answer.result),
+        }
+    }};
+}
+
 impl Call {
     pub const NAMES: [&'static str; 14] = [
         // Those that ask.
@@ -145,75 +187,13 @@ impl Call {
     }
 
     /// Makes any call, on the twin.
-    #[rustfmt::skip]
     pub fn on_twin(&self, image: &mut [u8]) -> Outcome {
-        let answer = match *self {
-            Call::Check =>
-                twin::check(image),
-            Call::OperationSet { subject, role } =>
-                twin::operation_set(image, subject, role),
-            Call::PermissionSet { subject, role, item } =>
-                twin::permission_set(image, subject, role, item),
-            Call::ListCount { list } =>
-                twin::list_count(image, list),
-            Call::LinesOf { list } =>
-                return lines_of_twin(image, list),
-            Call::FindEditor { list } =>
-                twin::find_editor(image, list),
-            Call::DefineSubject { caller, role, parent, privileges } =>
-                twin::define_subject(image, caller, role, parent, privileges),
-            Call::SetGrant { caller, receiver, role, domain, privileges } =>
-                twin::set_grant(image, caller, receiver, role, domain, privileges),
-            Call::RemoveGrant { caller, receiver, role } =>
-                twin::remove_grant(image, caller, receiver, role),
-            Call::SetLine { caller, role, list, kind, subject, privileges } =>
-                twin::set_line(image, caller, role, list, kind, subject, privileges),
-            Call::RemoveLine { caller, role, list, kind, subject } =>
-                twin::remove_line(image, caller, role, list, kind, subject),
-            Call::CreateItem { caller, role, list, flags } =>
-                twin::create_item(image, caller, role, list, flags),
-            Call::Bind { caller, item, list } =>
-                twin::bind(image, caller, item, list),
-            Call::HandOver { caller, item, owner } =>
-                twin::hand_over(image, caller, item, owner),
-        };
-        Outcome::new(answer.number, answer.result)
+        made_on!(twin, self, image)
     }
 
     /// Makes any call, on the yardstick.
-    #[rustfmt::skip]
     pub fn on_yardstick(&self, image: &mut [u8]) -> Outcome {
-        let answer = match *self {
-            Call::Check =>
-                yardstick::check(image),
-            Call::OperationSet { subject, role } =>
-                yardstick::operation_set(image, subject, role),
-            Call::PermissionSet { subject, role, item } =>
-                yardstick::permission_set(image, subject, role, item),
-            Call::ListCount { list } =>
-                yardstick::list_count(image, list),
-            Call::LinesOf { list } =>
-                return lines_of_yardstick(image, list),
-            Call::FindEditor { list } =>
-                yardstick::find_editor(image, list),
-            Call::DefineSubject { caller, role, parent, privileges } =>
-                yardstick::define_subject(image, caller, role, parent, privileges),
-            Call::SetGrant { caller, receiver, role, domain, privileges } =>
-                yardstick::set_grant(image, caller, receiver, role, domain, privileges),
-            Call::RemoveGrant { caller, receiver, role } =>
-                yardstick::remove_grant(image, caller, receiver, role),
-            Call::SetLine { caller, role, list, kind, subject, privileges } =>
-                yardstick::set_line(image, caller, role, list, kind, subject, privileges),
-            Call::RemoveLine { caller, role, list, kind, subject } =>
-                yardstick::remove_line(image, caller, role, list, kind, subject),
-            Call::CreateItem { caller, role, list, flags } =>
-                yardstick::create_item(image, caller, role, list, flags),
-            Call::Bind { caller, item, list } =>
-                yardstick::bind(image, caller, item, list),
-            Call::HandOver { caller, item, owner } =>
-                yardstick::hand_over(image, caller, item, owner),
-        };
-        Outcome::new(answer.number, answer.result)
+        made_on!(yardstick, self, image)
     }
 }
 
@@ -250,20 +230,6 @@ fn lines_of_library(image: &[u8], list: u32) -> Outcome {
             ..Outcome::new(refusal.number(), 0)
         },
     }
-}
-
-fn lines_of_twin(image: &[u8], list: u32) -> Outcome {
-    let count = twin::list_count(image, list);
-    lines_at(twin::list_start(image, list), count.number, count.result)
-}
-
-fn lines_of_yardstick(image: &[u8], list: u32) -> Outcome {
-    let count = yardstick::list_count(image, list);
-    lines_at(
-        yardstick::list_start(image, list),
-        count.number,
-        count.result,
-    )
 }
 
 fn lines_at(start: usize, number: u32, count: u32) -> Outcome {

@@ -52,7 +52,8 @@ impl Text {
         }
     }
 
-    /// At most 11. Taking it modulo 16 changes nothing, but shows the compiler that the text fits into a line.
+    /// At most 11. Taking it modulo 16 changes nothing, but shows the compiler that the text fits
+    /// into a line.
     #[inline]
     fn length(&self) -> usize {
         self.length as usize % TEXT_BYTES
