@@ -57,14 +57,14 @@ module _ (img : List ℕ) (o : Opened) (is : o ≡ opened img) (a : ℕ) (r : An
       }
 
   pub editor-image : (n : ℕ) → o ≡ Refused n → r ≡ answer n 0 → EditorAnswer img a r
-  editor-image n case e = refused n (refused-by img o is n case .1) (number-image img o is (λ t. editorQuestions t a) (λ t. 0) n case) e
+  editor-image n case e = refused n (refused-by img o is n case .1) (number-image img o is (λ t. editorQuestions t a) n case) e
 
   module _ (lay : Layout) (case : o ≡ With lay) (b : Bool) (said : b ≡ isList (tablesBy lay img .items) a) where
     there : lay ≡ layoutOf img
     there = layout-with img o is lay case
 
     own : (k : ℕ) → k ≡ firstNo (editorQuestions (tablesBy lay img) a) → k ≡ firstNo (imageQuestions img ++ editorQuestions (tables img) a)
-    own k e = e ∙ number-own img o is (λ t. editorQuestions t a) (λ t. 0) lay case
+    own k e = e ∙ number-own img o is (λ t. editorQuestions t a) lay case
 
     pub editor-no-list : not b ≡ true → r ≡ answer 13 0 → EditorAnswer img a r
     unfolding editorQuestions

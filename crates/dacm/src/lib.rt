@@ -4,8 +4,9 @@
 ghost use mathlib.Core.Path.{_≡_};
 ghost use Rattle.model.specs.Calls.Ask.{checkImage, operationSetOf, permissionSetOf, listCount};
 ghost use Rattle.model.specs.Calls.Change.{defineSubject, setGrant, removeGrant, setLine, removeLine, createItem, bind, handOver};
-ghost use Rattle.model.specs.Questions.{ask, act, listStart, EditorAnswer};
+ghost use Rattle.model.specs.Questions.{ask, explain, act, listStart, EditorAnswer};
 use model::Answer;
+use model::Explanation;
 use model::Item;
 use model::Privileges;
 use model::Role;
@@ -40,6 +41,20 @@ pub extern "C" fn dacm_permission_set(
     ensures { λ r. ⌜ r ≡ ask (now (image .entry)) (permissionSetOf (subject .0) (role .0) (item .0)) ⌝ }
 {
     asking::sets::permission_set(image, subject, role, item)
+}
+
+// Why the permission set of a subject under a role on an item is what it is: the rule that decided, the subject whose group
+// line that was, and the sets that are put together. A refused question has 0 in every field but the number.
+#[no_mangle]
+pub extern "C" fn dacm_explain(
+    image: &[u8],
+    subject: Subject,
+    role: Role,
+    item: Item,
+) -> Explanation
+    ensures { λ r. ⌜ r ≡ explain (now (image .entry)) (subject .0) (role .0) (item .0) ⌝ }
+{
+    asking::explanation::explain(image, subject, role, item)
 }
 
 // Counts the lines of a list. The result is how many rows it has.

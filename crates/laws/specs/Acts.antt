@@ -23,7 +23,7 @@ use Rattle.model.specs.Questions.{imageQuestions, questions, firstNo, answer, a
 use Rattle.laws.specs.Tests.{All-left, All-right}
 use Rattle.laws.specs.WellFormed.{WellFormed, fitting, Passed}
 use Rattle.laws.specs.Answers.{numbered, first-passed, passed-first}
-use Rattle.laws.specs.Asks.{answers-image, answers-own}
+use Rattle.laws.specs.Asks.{result-image, result-no, result-done}
 use Rattle.laws.specs.Kept.{well-formed-after}
 use Rattle.laws.specs.Back.{tables-well-formed}
 use Rattle.laws.specs.There.{tables-there, encode-accepted}
@@ -107,19 +107,18 @@ module _ (img : List ℕ) (c : Change) (handed : Handed c) (accepted : Accepted 
 module _ (img : List ℕ) (o : Opened) (is : o ≡ opened img) (c : Change) (a : Answer) where
   pub act-image : (n : ℕ) → o ≡ Refused n → a ≡ answer n 0 → a ≡ act img c .answer
   unfolding act
-  act-image n case e = e ∙ answers-image img o is (λ t. questions t c) (λ t. changeResult t c) n case
+  act-image n case e = e ∙ result-image img o is (λ t. questions t c) (λ t. changeResult t c) n case
 
   module _ (lay : Layout) (case : o ≡ With lay) where
-    own : act img c .answer ≡ answered (firstNo (questions (tablesBy lay img) c)) (changeResult (tablesBy lay img) c)
-    unfolding act
-    own = answers-own img o is (λ t. questions t c) (λ t. changeResult t c) lay case
-
     module _ (k : ℕ) (asked : k ≡ firstNo (questions (tablesBy lay img) c)) where
       pub act-no : a ≡ answer k 0 → (k ≡ 0 → ⊥) → a ≡ act img c .answer
-      act-no e bad = e ∙ sym (own ∙ rw (← asked, ne-eqb k 0 bad))
+      unfolding act
+      act-no e bad = e ∙ result-no img o is (λ t. questions t c) (λ t. changeResult t c) lay case k (ne-eqb k 0 bad) asked
 
       pub act-done : (v : ℕ) → a ≡ answer 0 v → k ≡ 0 → v ≡ changeResult (tablesBy lay img) c → a ≡ act img c .answer
-      act-done v e done made-is = e ∙ sym (own ∙ rw (← asked, done, ← made-is))
+      unfolding act
+      act-done v e done made-is =
+          e ∙ result-done img o is (λ t. questions t c) (λ t. changeResult t c) lay case v (sym done ∙ asked) made-is
 
     -- the same, if it is known in another way that every question was answered yes
     pub act-passed : (v : ℕ)

@@ -7,62 +7,125 @@ use Prim.Native.Nat.{ℕ}
 use borrow.Author.Tests.{ne-eqb}
 use lib.Dec.{eqb}
 use Rattle.model.specs.declared.Answer.{Answer}
+use Rattle.model.specs.declared.Explanation.{Explanation}
 use Rattle.model.specs.declared.Layout.{Layout}
 use Rattle.model.specs.declared.Opened.{Opened}
 use Rattle.model.specs.declared.Opened.the-variants.{With, Refused}
 use Rattle.model.specs.Image.{Tables, tablesBy, tables}
+use Rattle.model.specs.Permission.{explanation}
 use Rattle.model.specs.Calls.{Ask, askResult}
 use Rattle.model.specs.Calls.Ask.{checkImage}
-use Rattle.model.specs.Questions.{Question, firstNo, imageQuestions, askQuestions, answer, answered, check, opened, ask}
+use Rattle.model.specs.Questions.{Question, firstNo, imageQuestions, askQuestions, explainQuestions, check, opened}
+use Rattle.model.specs.Questions.{answer, answered, ask, refusedExplanation, explained, explain}
 use Rattle.laws.specs.Answers.{first-left, first-right, asked-all}
 use Rattle.laws.specs.Opens.{refused-by, opened-with, layout-with}
 
--- Any call. Its own questions qs, which come after those of the image, and its result v depend on the tables. o is what opening
--- the image answered.
-module _ (img : List ℕ) (o : Opened) (is : o ≡ opened img) (qs : Tables → List Question) (v : Tables → ℕ) where
-  abbrev answers : Answer
-  answers = answered (firstNo (imageQuestions img ++ qs (tables img))) (v (tables img))
-
+-- Any call. Its own questions qs, which come after those of the image, depend on the tables. o is what opening the image
+-- answered.
+module _ (img : List ℕ) (o : Opened) (is : o ≡ opened img) (qs : Tables → List Question) where
   -- if the image is refused, the call answers the image's refusal
   pub number-image : (n : ℕ) → o ≡ Refused n → n ≡ firstNo (imageQuestions img ++ qs (tables img))
   unfolding check imageQuestions
   number-image n case = let by = refused-by img o is n case in first-left (imageQuestions img) (qs (tables img)) n tt (by .0) (by .1)
 
-  pub answers-image : (n : ℕ) → o ≡ Refused n → answer n 0 ≡ answers
-  answers-image n case = rw (← number-image n case, ne-eqb n 0 (refused-by img o is n case .1))
-
   -- if the image is opened, the call's own questions decide; they are asked of the tables by the layout
-  module _ (lay : Layout) (case : o ≡ With lay) where
-    pub number-own : firstNo (qs (tablesBy lay img)) ≡ firstNo (imageQuestions img ++ qs (tables img))
-    unfolding check imageQuestions
-    number-own =
-        let with = opened-with img o is lay case in
-        rw (with .1) (first-right (imageQuestions img) (qs (tables img)) (check img) tt refl (firstNo (qs (tables img))) (with .0) refl)
+  pub number-own : (lay : Layout) → o ≡ With lay → firstNo (qs (tablesBy lay img)) ≡ firstNo (imageQuestions img ++ qs (tables img))
+  unfolding check imageQuestions
+  number-own lay case =
+      let with = opened-with img o is lay case in
+      rw (with .1) (first-right (imageQuestions img) (qs (tables img)) (check img) tt refl (firstNo (qs (tables img))) (with .0) refl)
 
-    pub answers-own : answers ≡ answered (firstNo (qs (tablesBy lay img))) (v (tablesBy lay img))
-    answers-own =
-        ap (λ (k : ℕ). answered k (v (tables img))) (sym number-own)
-        ∙ ap (λ (l : Layout). answered (firstNo (qs (tablesBy lay img))) (v (tablesBy l img))) (sym (layout-with img o is lay case))
+  -- The call says by its refusal n and its result x, which depends on the tables, what it answers: `refused n`, or x where n
+  -- is 0.
+  module _ {A B : Type 0} (say : ℕ → A → B) (refused : ℕ → B)
+      (says-refused : (n : ℕ) (x : A) → eqb n 0 ≡ false → refused n ≡ say n x) (v : Tables → A) where
+    abbrev answers : B
+    answers = say (firstNo (imageQuestions img ++ qs (tables img))) (v (tables img))
+
+    pub answers-image : (n : ℕ) → o ≡ Refused n → refused n ≡ answers
+    answers-image n case =
+        says-refused n (v (tables img)) (ne-eqb n 0 (refused-by img o is n case .1))
+        ∙ ap (λ (k : ℕ). say k (v (tables img))) (number-image n case)
+
+    module _ (lay : Layout) (case : o ≡ With lay) where
+      pub answers-own : answers ≡ say (firstNo (qs (tablesBy lay img))) (v (tablesBy lay img))
+      answers-own =
+          ap (λ (k : ℕ). say k (v (tables img))) (sym (number-own lay case))
+          ∙ ap (λ (l : Layout). say (firstNo (qs (tablesBy lay img))) (v (tablesBy l img))) (sym (layout-with img o is lay case))
+
+      pub answers-no : (k : ℕ) → eqb k 0 ≡ false → k ≡ firstNo (qs (tablesBy lay img)) → refused k ≡ answers
+      answers-no k some h = says-refused k (v (tablesBy lay img)) some ∙ sym (answers-own ∙ rw (← h))
+
+      pub answers-done : (x : A) → 0 ≡ firstNo (qs (tablesBy lay img)) → x ≡ v (tablesBy lay img) → say 0 x ≡ answers
+      answers-done x h f = sym (answers-own ∙ rw (← h, ← f))
+
+-- A call whose answer is a number and a result v.
+answered-refused : (n r : ℕ) → eqb n 0 ≡ false → answer n 0 ≡ answered n r
+answered-refused n r some = rw some
+
+module _ (img : List ℕ) (o : Opened) (is : o ≡ opened img) (qs : Tables → List Question) (v : Tables → ℕ) where
+  abbrev result : Answer
+  result = answered (firstNo (imageQuestions img ++ qs (tables img))) (v (tables img))
+
+  pub result-image : (n : ℕ) → o ≡ Refused n → answer n 0 ≡ result
+  result-image = answers-image img o is qs answered (λ n. answer n 0) answered-refused v
+
+  module _ (lay : Layout) (case : o ≡ With lay) where
+    pub result-no : (k : ℕ) → eqb k 0 ≡ false → k ≡ firstNo (qs (tablesBy lay img)) → answer k 0 ≡ result
+    result-no = answers-no img o is qs answered (λ n. answer n 0) answered-refused v lay case
+
+    pub result-done : (x : ℕ) → 0 ≡ firstNo (qs (tablesBy lay img)) → x ≡ v (tablesBy lay img) → answer 0 x ≡ result
+    result-done = answers-done img o is qs answered (λ n. answer n 0) answered-refused v lay case
 
 module _ (img : List ℕ) (o : Opened) (is : o ≡ opened img) (q : Ask) (a : Answer) where
   pub ask-image : (n : ℕ) → o ≡ Refused n → a ≡ answer n 0 → a ≡ ask img q
   unfolding ask
-  ask-image n case e = e ∙ answers-image img o is (λ t. askQuestions t q) (λ t. askResult t q) n case
+  ask-image n case e = e ∙ result-image img o is (λ t. askQuestions t q) (λ t. askResult t q) n case
 
   module _ (lay : Layout) (case : o ≡ With lay) where
-    own : ask img q ≡ answered (firstNo (askQuestions (tablesBy lay img) q)) (askResult (tablesBy lay img) q)
-    unfolding ask
-    own = answers-own img o is (λ t. askQuestions t q) (λ t. askResult t q) lay case
-
     pub ask-no : (k : ℕ) → eqb k 0 ≡ false → k ≡ firstNo (askQuestions (tablesBy lay img) q) → a ≡ answer k 0 → a ≡ ask img q
-    ask-no k some h e = e ∙ sym (own ∙ rw (← h, some))
+    unfolding ask
+    ask-no k some h e = e ∙ result-no img o is (λ t. askQuestions t q) (λ t. askResult t q) lay case k some h
 
     pub ask-done : (v : ℕ)
         → 0 ≡ firstNo (askQuestions (tablesBy lay img) q)
         → v ≡ askResult (tablesBy lay img) q
         → a ≡ answer 0 v
         → a ≡ ask img q
-    ask-done v h f e = e ∙ sym (own ∙ rw (← h, ← f))
+    unfolding ask
+    ask-done v h f e = e ∙ result-done img o is (λ t. askQuestions t q) (λ t. askResult t q) lay case v h f
+
+-- explain, whose answer is a record
+explained-refused : (n : ℕ) (e : Explanation) → eqb n 0 ≡ false → refusedExplanation n ≡ explained n e
+explained-refused n e some = rw some
+
+module _ (img : List ℕ) (o : Opened) (is : o ≡ opened img) (s r i : ℕ) (x : Explanation) where
+  pub explain-image : (n : ℕ) → o ≡ Refused n → x ≡ refusedExplanation n → x ≡ explain img s r i
+  unfolding explain
+  explain-image n case e =
+      e
+      ∙ answers-image img o is (λ t. explainQuestions t s i) explained refusedExplanation explained-refused
+      (λ t. explanation t s r i) n case
+
+  module _ (lay : Layout) (case : o ≡ With lay) where
+    pub explain-no : (k : ℕ)
+        → eqb k 0 ≡ false
+        → k ≡ firstNo (explainQuestions (tablesBy lay img) s i)
+        → x ≡ refusedExplanation k
+        → x ≡ explain img s r i
+    unfolding explain
+    explain-no k some h e =
+        e
+        ∙ answers-no img o is (λ t. explainQuestions t s i) explained refusedExplanation explained-refused
+        (λ t. explanation t s r i) lay case k some h
+
+    pub explain-done : 0 ≡ firstNo (explainQuestions (tablesBy lay img) s i)
+        → x ≡ explanation (tablesBy lay img) s r i
+        → x ≡ explain img s r i
+    unfolding explain
+    explain-done h e =
+        answers-done img o is (λ t. explainQuestions t s i) explained refusedExplanation explained-refused
+        (λ t. explanation t s r i) lay case x h e
 
 -- the check asks nothing more than the questions of the image
 module _ (img : List ℕ) (o : Opened) (is : o ≡ opened img) (a : Answer) where

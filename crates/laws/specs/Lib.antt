@@ -24,3 +24,5 @@ pub mod Asks
 -- law for each way in which the code returns.
 pub mod Kept
 pub mod Acts
+-- Then explanations, which say what decided.
+pub mod Reasons

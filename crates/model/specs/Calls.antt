@@ -16,7 +16,7 @@ use Rattle.model.specs.Image.{Tables, subjectRow, grantRow, lineRow, ite
 use Rattle.model.specs.Image.{withOwner, grantKey, lineKey, privilegesIn, itemIn, subjectUsed}
 use Rattle.model.specs.Permission.{operationSet, permissionSet}
 
--- The calls that only ask and whose result is decided.
+-- The calls that only ask and whose result is one number, and decided.
 pub data Ask : Type 0 where
   checkImage : Ask
   operationSetOf : (subject role : ℕ) → Ask

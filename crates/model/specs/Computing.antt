@@ -5,14 +5,16 @@ use Rattle.model.specs.Tree.{climbs, inTree}
 use Rattle.model.specs.WhoAndWhat.{has}
 use Rattle.model.specs.Image.{fieldAt, layoutOf, rowsIn, tablesBy, blockOf, encode, subjectsHold, itemsHold, linesHold, grantsHold}
 use Rattle.model.specs.Image.{headerRules, tableRules, layoutRules, unusedRules}
-use Rattle.model.specs.Permission.{groupWithin, groupLine, directLine, partOf, operationUnder, objectUnder, permissionUnder}
+use Rattle.model.specs.Permission.{groupWithin, groupLine, groupRule, ownRule, ownerRule, decidingRule, everyoneSet, partOn}
+use Rattle.model.specs.Permission.{operationUnder, objectUnder, permissionUnder, explanationUnder}
 use Rattle.model.specs.Calls.{askResult, after, changeResult}
-use Rattle.model.specs.Questions.{firstNo, imageQuestions, askQuestions, questions, check, ask, act}
+use Rattle.model.specs.Questions.{firstNo, imageQuestions, askQuestions, explainQuestions, questions, check, ask, explain, act}
 
 unfoldable pub computing : Unit {0}
 unfolding find put cut ascending climbs inTree has
     fieldAt layoutOf rowsIn tablesBy blockOf encode
     subjectsHold itemsHold linesHold grantsHold headerRules tableRules layoutRules unusedRules
-    groupWithin groupLine directLine partOf operationUnder objectUnder permissionUnder
-    askResult after changeResult firstNo imageQuestions askQuestions questions check ask act
+    groupWithin groupLine groupRule ownRule ownerRule decidingRule everyoneSet partOn
+    operationUnder objectUnder permissionUnder explanationUnder
+    askResult after changeResult firstNo imageQuestions askQuestions explainQuestions questions check ask explain act
 computing = tt

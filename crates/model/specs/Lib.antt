@@ -9,6 +9,7 @@ pub mod Tree
 pub mod WhoAndWhat
 pub mod Image
 pub mod Permission
+pub mod Reasons
 pub mod Calls
 pub mod Questions
 pub mod Sample

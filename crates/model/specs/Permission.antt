@@ -7,6 +7,9 @@ use lib.Dec.{eqb, ltb}
 use Rattle.model.specs.declared.GrantRow.{GrantRow}
 use Rattle.model.specs.declared.ItemRow.{ItemRow}
 use Rattle.model.specs.declared.LineRow.{LineRow}
+use Rattle.model.specs.declared.Explanation.{Explanation}
+use Rattle.model.specs.declared.Rule.{Rule}
+use Rattle.model.specs.declared.Rule.the-variants.{Custodian, OwnerLine, OwnLine, GroupLine, NothingFound}
 use Rattle.model.specs.declared.SoughtLine.{SoughtLine}
 use Rattle.model.specs.declared.SoughtLine.the-variants.{Line, NoLine}
 use Rattle.model.specs.declared.SoughtGrant.{SoughtGrant}
@@ -43,23 +46,69 @@ groupWithin (suc n) up lines s a =
 unfoldable pub groupLine : (ℕ → ℕ) → List LineRow → ℕ → ℕ → Option LineRow
 groupLine up lines s a = groupWithin s up lines s a
 
--- The line that takes precedence over group lines, if there is one. For the item's owner o it is the owner line. For any
--- other subject it is the subject's own line, even one without privileges.
-unfoldable pub directLine : List LineRow → ℕ → ℕ → ℕ → Option LineRow
-directLine lines s o a = cond (eqb s o) (lineIn lines a ownerKind 0) (lineIn lines a itselfKind s)
+-- The rule that a line decides, if there is one. Otherwise the next rule.
+abbrev pub ruleBy : (LineRow → Rule) → Option LineRow → Rule → Rule
+ruleBy rule none next = next
+ruleBy rule (some l) next = rule l
 
--- The lines' part of subject s on an item with owner o and list a. The custodian's is `all`. Anyone else has the privileges of
--- the direct line or, if there is none, of the group line, and in addition those of the line for everyone.
-unfoldable pub partOf : ℕ → (ℕ → ℕ) → List LineRow → ℕ → ℕ → ℕ → ℕ
-partOf all up lines s o a =
-    cond (eqb s custodian) all
-    (lineSet (orElse (directLine lines s o a) (groupLine up lines s a))
-    ∪ lineSet (lineIn lines a everyoneKind 0))
+-- The deciding rule of subject s on an item with owner o and list a. The custodian needs no line. For the owner it is the
+-- owner line, for any other subject its own line, even one without privileges. If there is no such line, it is the group line
+-- that the search meets first.
+unfoldable pub groupRule : (ℕ → ℕ) → List LineRow → ℕ → ℕ → Rule
+groupRule up lines s a = ruleBy GroupLine (groupLine up lines s a) NothingFound
 
--- the same on an item whose row is x, and on item i
-abbrev pub partOn : Tables → ℕ → ItemRow → ℕ
-partOn t s x = partOf (everything (widthIn t)) (parentIn (t .subjects)) (t .lines) s (x .owner .0) (x .list .0)
+unfoldable pub ownRule : (ℕ → ℕ) → List LineRow → ℕ → ℕ → Rule
+ownRule up lines s a = ruleBy OwnLine (lineIn lines a itselfKind s) (groupRule up lines s a)
 
+unfoldable pub ownerRule : (ℕ → ℕ) → List LineRow → ℕ → ℕ → Rule
+ownerRule up lines s a = ruleBy OwnerLine (lineIn lines a ownerKind 0) (groupRule up lines s a)
+
+unfoldable pub decidingRule : (ℕ → ℕ) → List LineRow → ℕ → ℕ → ℕ → Rule
+decidingRule up lines s o a = cond (eqb s custodian) Custodian (cond (eqb s o) (ownerRule up lines s a) (ownRule up lines s a))
+
+-- The paper's number of each rule.
+abbrev pub ruleNumber : Rule → ℕ
+ruleNumber Custodian = 1
+ruleNumber (OwnerLine l) = 2
+ruleNumber (OwnLine l) = 3
+ruleNumber (GroupLine l) = 4
+ruleNumber NothingFound = 5
+
+-- the subject whose group line it was; 0 for every other rule
+abbrev pub ruleGroup : Rule → ℕ
+ruleGroup Custodian = 0
+ruleGroup (OwnerLine l) = 0
+ruleGroup (OwnLine l) = 0
+ruleGroup (GroupLine l) = l .subject .0
+ruleGroup NothingFound = 0
+
+-- the set that the rule gives; the first argument is all privileges
+abbrev pub ruleSet : ℕ → Rule → ℕ
+ruleSet all Custodian = all
+ruleSet all (OwnerLine l) = l .privileges
+ruleSet all (OwnLine l) = l .privileges
+ruleSet all (GroupLine l) = l .privileges
+ruleSet all NothingFound = 0
+
+-- What the line for everyone in list a adds for s. It adds nothing for the custodian.
+unfoldable pub everyoneSet : List LineRow → ℕ → ℕ → ℕ
+everyoneSet lines s a = cond (eqb s custodian) 0 (lineSet (lineIn lines a everyoneKind 0))
+
+-- The same of subject s on an item whose row is x, and its lines' part there: what the deciding rule gives, and what the line
+-- for everyone adds.
+abbrev pub ruleOn : Tables → ℕ → ItemRow → Rule
+ruleOn t s x = decidingRule (parentIn (t .subjects)) (t .lines) s (x .owner .0) (x .list .0)
+
+abbrev pub ruleSetOn : Tables → ℕ → ItemRow → ℕ
+ruleSetOn t s x = ruleSet (everything (widthIn t)) (ruleOn t s x)
+
+abbrev pub everyoneOn : Tables → ℕ → ItemRow → ℕ
+everyoneOn t s x = everyoneSet (t .lines) s (x .list .0)
+
+unfoldable pub partOn : Tables → ℕ → ItemRow → ℕ
+partOn t s x = ruleSetOn t s x ∪ everyoneOn t s x
+
+-- the lines' part on item i
 abbrev pub linesPart : Tables → ℕ → ℕ → ℕ
 linesPart t s i = partOn t s (itemIn (t .items) i)
 
@@ -106,3 +155,25 @@ operationSet t s r = operationUnder t s (grantOf t s r)
 
 abbrev pub permissionSet : Tables → ℕ → ℕ → ℕ → ℕ
 permissionSet t s r i = permissionUnder t s (grantOf t s r) i
+
+-- The explanation of the permission set on item i (document 02, P1): the deciding rule, the sets that are put together, and the
+-- operation set, which cuts them. First under a grant that may be missing, then under the role that s claims.
+
+unfoldable pub explanationUnder : Tables → ℕ → Option GrantRow → ℕ → Explanation
+explanationUnder t s g i =
+    record {
+      number = 0;
+      rule = ruleNumber (ruleOn t s (itemIn (t .items) i));
+      group = ruleGroup (ruleOn t s (itemIn (t .items) i));
+      «rule_set» = ruleSetOn t s (itemIn (t .items) i);
+      «everyone_set» = everyoneOn t s (itemIn (t .items) i);
+      «role_set» = lentPart t g i;
+      operations = operationUnder t s g;
+    }
+
+abbrev pub explanation : Tables → ℕ → ℕ → ℕ → Explanation
+explanation t s r i = explanationUnder t s (grantOf t s r) i
+
+-- the fields of an explanation, put together by the rules above
+abbrev pub putTogether : Explanation → ℕ
+putTogether e = e .operations ∩ (e .«rule_set» ∪ e .«everyone_set» ∪ e .«role_set»)

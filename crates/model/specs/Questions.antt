@@ -9,6 +9,7 @@ use Prim.Native.Nat.{ℕ, _+_, _*_}
 use lib.ListN.{length, take, drop}
 use lib.Dec.{T, eqb, ltb, leb}
 use Rattle.model.specs.declared.Answer.{Answer}
+use Rattle.model.specs.declared.Explanation.{Explanation}
 use Rattle.model.specs.declared.GrantRow.{GrantRow}
 use Rattle.model.specs.declared.Layout.{Layout}
 use Rattle.model.specs.declared.Opened.{Opened}
@@ -21,7 +22,7 @@ use Rattle.model.specs.Image.{shortestImage, longestImage, Tables, layou
 use Rattle.model.specs.Image.{widthOf, size, lineFormat, grantKey, lineKey, parentIn, subjectUsed}
 use Rattle.model.specs.Image.{itemIn, itemUsed, isList, isLocked, noneOrList, flagsFit, kindFits}
 use Rattle.model.specs.Image.{layoutRules, subjectsHold, itemsHold, linesHold, grantsHold, unusedRules}
-use Rattle.model.specs.Permission.{grantOf, operationSet, permissionSet}
+use Rattle.model.specs.Permission.{grantOf, operationSet, permissionSet, explanation}
 use Rattle.model.specs.Calls.{Ask, Change, rowsOf, rowsBefore, isEditor, askResult, after, changeResult}
 use Rattle.model.specs.Calls.Ask.{checkImage, operationSetOf, permissionSetOf, listCount}
 use Rattle.model.specs.Calls.Change.{defineSubject, setGrant, removeGrant, setLine, removeLine, createItem, bind, handOver}
@@ -62,6 +63,9 @@ askQuestions t checkImage = []
 askQuestions t (operationSetOf s r) = 10 asks subjectUsed (t .subjects) s ∷ []
 askQuestions t (permissionSetOf s r i) = 10 asks subjectUsed (t .subjects) s ∷ 12 asks itemUsed (t .items) i ∷ []
 askQuestions t (listCount a) = 13 asks isList (t .items) a ∷ []
+
+unfoldable pub explainQuestions : Tables → ℕ → ℕ → List Question
+explainQuestions t s i = 10 asks subjectUsed (t .subjects) s ∷ 12 asks itemUsed (t .items) i ∷ []
 
 unfoldable pub editorQuestions : Tables → ℕ → List Question
 editorQuestions t a = 13 asks isList (t .items) a ∷ 20 asks someNumbered (λ s row. isEditor t s a) (t .subjects) ∷ []
@@ -179,6 +183,17 @@ pub record Accepted (img : List ℕ) : Type 0 where
 -- What a call that asks answers.
 unfoldable pub ask : List ℕ → Ask → Answer
 ask img q = answered (firstNo (imageQuestions img ++ askQuestions (tables img) q)) (askResult (tables img) q)
+
+-- What explain answers: the explanation. A refused question has its refusal, and 0 in every other field.
+abbrev pub refusedExplanation : ℕ → Explanation
+refusedExplanation n =
+    record { number = n; rule = 0; group = 0; «rule_set» = 0; «everyone_set» = 0; «role_set» = 0; operations = 0 }
+
+abbrev pub explained : ℕ → Explanation → Explanation
+explained n e = cond (eqb n 0) e (refusedExplanation n)
+
+unfoldable pub explain : List ℕ → ℕ → ℕ → ℕ → Explanation
+explain img s r i = explained (firstNo (imageQuestions img ++ explainQuestions (tables img) s i)) (explanation (tables img) s r i)
 
 -- The outcome of a call that writes: its answer, and the image afterwards. A refused call changes no byte.
 pub record Outcome : Type 0 where

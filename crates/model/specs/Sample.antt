@@ -1,12 +1,14 @@
--- Document 01, "The sample workshop": the tables, and the twelve sets that are proved.
+-- Document 01, "The sample workshop": the tables, and the twelve sets that are proved. Then the explanation of each of them
+-- (document 02, P1).
 use mathlib.Core.Bool.{Bool, _&&_}
 use mathlib.Core.List.{List, [], _∷_}
 use Prim.Native.Nat.{ℕ}
 use lib.Dec.{eqb}
+use Rattle.model.specs.declared.Explanation.{Explanation}
 use Rattle.model.specs.WhoAndWhat.{everything}
 use Rattle.model.specs.Image.{Tables, subjectRow, grantRow, lineRow, itemRow, itselfKind, groupKind, ownerKind, everyoneKind}
 use Rattle.model.specs.Calls.Ask.{permissionSetOf}
-use Rattle.model.specs.Questions.{ask}
+use Rattle.model.specs.Questions.{ask, refusedExplanation, explain}
 
 -- Each table has one free row.
 unfoldable pub workshop : Tables
@@ -62,3 +64,45 @@ abbrev pub right : List ℕ → Case → Bool
 right img c =
     eqb (ask img (permissionSetOf (c .asker) (c .role) (c .item)) .number) 0
     && eqb (ask img (permissionSetOf (c .asker) (c .role) (c .item)) .result) (c .set)
+
+-- The explanations of these cases, in the same order: the rule's number, the group, what the rule gives, what everyone's line and
+-- the role add, and the operation set.
+abbrev because : ℕ → ℕ → ℕ → ℕ → ℕ → ℕ → Explanation
+because rule group given everyone role operations =
+    record {
+      number = 0;
+      rule = rule;
+      group = group;
+      «rule_set» = given;
+      «everyone_set» = everyone;
+      «role_set» = role;
+      operations = operations;
+    }
+
+abbrev pub reasons : List Explanation
+reasons =
+    because 2 0 7 1 0 91
+    ∷ because 4 1 3 1 0 91
+    ∷ because 3 0 0 1 0 3
+    ∷ because 3 0 8 1 0 9
+    ∷ because 3 0 8 1 3 11
+    ∷ because 2 0 7 1 0 9
+    ∷ because 2 0 7 1 0 11
+    ∷ because 3 0 8 1 0 9
+    ∷ because 5 0 0 1 0 127
+    ∷ because 5 0 0 1 0 73
+    ∷ because 5 0 0 0 0 91
+    ∷ because 1 0 4294967295 0 0 4294967295
+    ∷ []
+
+-- asked on an image, the explanation of a case
+abbrev pub explainedCase : List ℕ → Case → Explanation
+explainedCase img c = explain img (c .asker) (c .role) (c .item)
+
+-- Three more questions: the custodian on an item whose list has a line for everyone, a subject that is not in use, and an item
+-- that is not in use. Their sets are not looked at.
+abbrev pub furtherCases : List Case
+furtherCases = case 0 0 2 0 ∷ case 6 0 2 0 ∷ case 2 0 5 0 ∷ []
+
+abbrev pub furtherReasons : List Explanation
+furtherReasons = because 1 0 4294967295 0 0 4294967295 ∷ refusedExplanation 10 ∷ refusedExplanation 12 ∷ []

@@ -1,11 +1,22 @@
 -- The twelve sets of the sample workshop, proved against the rules: the permission set call answers each of them on the
--- workshop's image, which is accepted. One theorem covers the whole table. It is proved by computation.
+-- workshop's image, which is accepted. One theorem covers the whole table. Another covers the explanations of these sets, a third
+-- three further explanations, two of them refused. All are proved by computation.
+use mathlib.Core.List.{map}
+use mathlib.Core.Path.{_≡_, refl}
 use lib.Dec.{T}
 use Rattle.model.specs.Lists.{every}
 use Rattle.model.specs.Image.{encode}
 use Rattle.model.specs.Computing.{computing}
-use Rattle.model.specs.Sample.{workshop, twelve, right}
+use Rattle.model.specs.Sample.{workshop, twelve, right, reasons, explainedCase, furtherCases, furtherReasons}
 
 pub the-twelve : T (every (right (encode workshop)) twelve)
 unfolding workshop computing
 the-twelve = tt
+
+pub the-reasons : map (explainedCase (encode workshop)) twelve ≡ reasons
+unfolding workshop computing
+the-reasons = refl
+
+pub the-further-reasons : map (explainedCase (encode workshop)) furtherCases ≡ furtherReasons
+unfolding workshop computing
+the-further-reasons = refl

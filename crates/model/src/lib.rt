@@ -3,7 +3,8 @@
 ghost use mathlib.Core.Path.{_≡_};
 ghost use Rattle.model.specs.WhoAndWhat.{maskOf, neededPosition, has, within, _∪_, _∩_};
 ghost use Rattle.model.specs.Image.{subjectRow, grantRow, lineRow, itemRow, withList, withOwner, listFlag, lockedFlag};
-ghost use Rattle.model.specs.Questions.{answer};
+ghost use Rattle.model.specs.Permission.{ruleNumber, ruleGroup, ruleSet};
+ghost use Rattle.model.specs.Questions.{answer, refusedExplanation};
 
 pub mod refusal;
 
@@ -47,6 +48,15 @@ pub struct ItemRow {
     pub owner: Subject,
     pub list: Item,
     pub flags: u32,
+}
+
+// The rule that decides what the lines of an item's list give a subject, with the line that it found.
+pub enum Rule {
+    Custodian,
+    OwnerLine(LineRow),
+    OwnLine(LineRow),
+    GroupLine(LineRow),
+    NothingFound,
 }
 
 // What a search for a line or for a grant answers: the row, or that there is none.
@@ -99,6 +109,76 @@ impl Answer {
         ensures { λ r. ⌜ r ≡ answer 0 result ⌝ }
     {
         Answer { number: 0, result }
+    }
+}
+
+impl Rule {
+    // The number of the rule.
+    pub fn number(self) -> u32
+        ensures { λ r. ⌜ r ≡ ruleNumber self ⌝ }
+    {
+        match self {
+            Rule::Custodian => 1,
+            Rule::OwnerLine(_) => 2,
+            Rule::OwnLine(_) => 3,
+            Rule::GroupLine(_) => 4,
+            Rule::NothingFound => 5,
+        }
+    }
+
+    // The subject whose group line it was. It is 0 for every other rule.
+    pub fn group(self) -> u32
+        ensures { λ r. ⌜ r ≡ ruleGroup self ⌝ }
+    {
+        match self {
+            Rule::Custodian => 0,
+            Rule::OwnerLine(_) => 0,
+            Rule::OwnLine(_) => 0,
+            Rule::GroupLine(line) => line.subject.0,
+            Rule::NothingFound => 0,
+        }
+    }
+
+    // The privileges that the rule gives, where the custodian gets `all`.
+    pub fn set(self, all: Privileges) -> Privileges
+        ensures { λ r. ⌜ r ≡ ruleSet all self ⌝ }
+    {
+        match self {
+            Rule::Custodian => all,
+            Rule::OwnerLine(line) => line.privileges,
+            Rule::OwnLine(line) => line.privileges,
+            Rule::GroupLine(line) => line.privileges,
+            Rule::NothingFound => 0,
+        }
+    }
+}
+
+// Why a permission set is what it is: 0, the rule that decided, the subject whose group line that was, and the sets that are
+// put together. Or the refusal, and 0 in every other field.
+#[repr(C)]
+pub struct Explanation {
+    pub number: u32,
+    pub rule: u32,
+    pub group: u32,
+    pub rule_set: Privileges,
+    pub everyone_set: Privileges,
+    pub role_set: Privileges,
+    pub operations: Privileges,
+}
+
+impl Explanation {
+    pub fn refused(number: u32) -> Explanation
+        ensures { λ r. ⌜ r ≡ refusedExplanation number ⌝ }
+    {
+        Explanation {
+            number,
+            rule: 0,
+            group: 0,
+            rule_set: 0,
+            everyone_set: 0,
+            role_set: 0,
+            operations: 0,
+        }
     }
 }
 

@@ -1,4 +1,4 @@
--- The lines that a search finds, as the code looks for them.
+-- The lines that a search finds, and the rule by which they decide, as the code looks for them.
 use mathlib.Core.Bool.{Bool, true, false, cond, false≢true}
 use mathlib.Core.List.{List, [], _∷_}
 use mathlib.Core.Option.{Option, none, some}
@@ -8,14 +8,19 @@ use native.Mathlib.Nat.{le-of-eq, le-of-suc-le-suc, not-suc-le-zero}
 use borrow.Author.Tests.{lt-ltb, le-ltb, eq-eqb, ne-eqb}
 use lib.Dec.{eqb, ltb}
 use lib.ListN.{length, getD, getElem?}
+use Rattle.model.specs.declared.ItemRow.{ItemRow}
 use Rattle.model.specs.declared.Layout.{Layout}
 use Rattle.model.specs.declared.LineRow.{LineRow}
+use Rattle.model.specs.declared.Rule.{Rule}
+use Rattle.model.specs.declared.Rule.the-variants.{Custodian, OwnerLine, OwnLine, GroupLine, NothingFound}
 use Rattle.model.specs.declared.SoughtLine.{SoughtLine}
 use Rattle.model.specs.declared.SoughtLine.the-variants.{Line, NoLine}
 use Rattle.model.specs.Lists.{orElse, isThere}
 use Rattle.model.specs.Sorted.{find, insertionIndex}
-use Rattle.model.specs.Image.{rowsIn, tablesBy, widthOf, lineFormat, lineKey, groupKind, ownerKind, itselfKind, noLine, parentIn}
-use Rattle.model.specs.Permission.{foundLine, lineIn, groupWithin, groupLine, directLine}
+use Rattle.model.specs.Image.{Tables, rowsIn, tablesBy, widthOf, lineFormat, lineKey, noLine, parentIn}
+use Rattle.model.specs.Image.{groupKind, ownerKind, itselfKind, everyoneKind}
+use Rattle.model.specs.Permission.{foundLine, lineIn, groupWithin, groupLine, ruleBy, groupRule, ownRule, ownerRule, decidingRule}
+use Rattle.model.specs.Permission.{lineSet, everyoneSet, ruleOn, everyoneOn}
 use Rattle.laws.specs.Rows.{rows-count}
 use Rattle.laws.specs.Sorted.{found-at, found-index}
 use Rattle.laws.specs.Tree.{group-up}
@@ -33,13 +38,13 @@ module _ (lines : List LineRow) (kind s : ℕ) (o : Option LineRow) where
   some-list zero h e = absurd (h refl)
   some-list (suc a) h e = e
 
--- the first of two lines that is there
-module _ (x : SoughtLine) (a b : Option LineRow) (said : foundLine x ≡ a) where
-  pub first-there : (l : LineRow) → x ≡ Line l → some l ≡ orElse a b
-  first-there l h = rw (← said, h)
+-- the rule of a line that a search may have found
+module _ (x : SoughtLine) (o : Option LineRow) (said : foundLine x ≡ o) (rule : LineRow → Rule) (next : Rule) where
+  by-there : (l : LineRow) → x ≡ Line l → rule l ≡ ruleBy rule o next
+  by-there l h = rw (← said, h)
 
-  pub first-missing : (r : Option LineRow) → x ≡ NoLine → r ≡ b → r ≡ orElse a b
-  first-missing r h f = rw (← said, h) f
+  by-missing : x ≡ NoLine → next ≡ ruleBy rule o next
+  by-missing h = rw (← said, h)
 
 -- A row by its index: past the end there is none.
 module _ {A : Type 0} where
@@ -138,14 +143,14 @@ pub no-list : (up : ℕ → ℕ) (lines : List LineRow) (s a : ℕ) → a ≡ 0 
 unfolding groupLine
 no-list up lines s a z = rw z (no-group s up lines s)
 
--- What the group search found, by its index. The search is handed as much of the layout as it reads, so its subjects and
--- lines are those of the layout.
+-- The rule of groups, by the index that the search found. The search is handed as much of the layout as it reads, so its
+-- subjects and lines are those of the layout.
 module _ (lay : Layout) (img : List ℕ) (s a : ℕ) where
   abbrev found : Option LineRow
   found = groupLine (parentIn (tablesBy lay img .subjects)) (tablesBy lay img .lines) s a
 
-  pub group-none : a ≡ 0 → none ≡ found
-  group-none z = sym (no-list (parentIn (tablesBy lay img .subjects)) (tablesBy lay img .lines) s a z)
+  abbrev byGroups : Rule
+  byGroups = groupRule (parentIn (tablesBy lay img .subjects)) (tablesBy lay img .lines) s a
 
   abbrev climbed : Layout
   climbed = climbingLayout (lay .subjects .used) (lay .subjects .start) (lay .lines .used) (lay .lines .start)
@@ -153,13 +158,13 @@ module _ (lay : Layout) (img : List ℕ) (s a : ℕ) where
   module _ (n : ℕ)
       (said : getElem? (tablesBy climbed img .lines) n
       ≡ groupLine (parentIn (tablesBy climbed img .subjects)) (tablesBy climbed img .lines) s a) where
-    pub index-none : lay .lines .used ≤ n → none ≡ found
+    index-none : lay .lines .used ≤ n → none ≡ found
     unfolding tablesBy rowsIn
     index-none past =
         let rows : List LineRow = rowsIn (lineFormat (widthOf lay)) (lay .lines) img in
         sym (index-past rows n (rw (rows-count (lineFormat (widthOf lay)) (lay .lines) img) past)) ∙ said
 
-    pub index-row : (x : LineRow)
+    index-row : (x : LineRow)
         → n < lay .lines .used
         → x ≡ getD (rowsIn (lineFormat (widthOf lay)) (lay .lines) img) n noLine
         → some x ≡ found
@@ -168,16 +173,77 @@ module _ (lay : Layout) (img : List ℕ) (s a : ℕ) where
         let rows : List LineRow = rowsIn (lineFormat (widthOf lay)) (lay .lines) img in
         ap some e ∙ sym (index-there rows n noLine (rw (rows-count (lineFormat (widthOf lay)) (lay .lines) img) there)) ∙ said
 
--- The direct line: the owner's line for the owner, the subject's own line for anybody else.
-module _ (lines : List LineRow) (s o a : ℕ) (r : Option LineRow) where
-  pub direct-owner : s ≡ o → r ≡ lineIn lines a ownerKind 0 → r ≡ directLine lines s o a
-  unfolding directLine
-  direct-owner h e = rw (eq-eqb s o h) e
+    pub groups-none : lay .lines .used ≤ n → NothingFound ≡ byGroups
+    unfolding groupRule
+    groups-none past = rw (← index-none past)
 
-  pub direct-other : (s ≡ o → ⊥) → r ≡ lineIn lines a itselfKind s → r ≡ directLine lines s o a
-  unfolding directLine
-  direct-other h e = rw (ne-eqb s o h) e
+    pub groups-row : (x : LineRow)
+        → n < lay .lines .used
+        → x ≡ getD (rowsIn (lineFormat (widthOf lay)) (lay .lines) img) n noLine
+        → GroupLine x ≡ byGroups
+    unfolding groupRule
+    groups-row x there e = rw (← index-row x there e)
 
-pub no-direct : (lines : List LineRow) (s o a : ℕ) → a ≡ 0 → directLine lines s o a ≡ none
-unfolding directLine
-no-direct lines s o a z = rw z (either-way (eqb s o) none)
+-- The rules of the owner and of anybody else, by what the search for the one line found. a is a list.
+module _ (up : ℕ → ℕ) (lines : List LineRow) (s a : ℕ) (some-a : a ≡ 0 → ⊥) (x : SoughtLine) where
+  sought : (kind who : ℕ) → foundLine x ≡ find lineKey (a ∷ kind ∷ who ∷ []) lines → foundLine x ≡ lineIn lines a kind who
+  sought kind who e = some-list lines kind who (foundLine x) a some-a e
+
+  module _ (e : foundLine x ≡ find lineKey (a ∷ ownerKind ∷ 0 ∷ []) lines) where
+    pub owner-there : (l : LineRow) → x ≡ Line l → OwnerLine l ≡ ownerRule up lines s a
+    unfolding ownerRule
+    owner-there = by-there x (lineIn lines a ownerKind 0) (sought ownerKind 0 e) OwnerLine (groupRule up lines s a)
+
+    pub owner-missing : (r : Rule) → x ≡ NoLine → r ≡ groupRule up lines s a → r ≡ ownerRule up lines s a
+    unfolding ownerRule
+    owner-missing r h f = f ∙ by-missing x (lineIn lines a ownerKind 0) (sought ownerKind 0 e) OwnerLine (groupRule up lines s a) h
+
+  module _ (e : foundLine x ≡ find lineKey (a ∷ itselfKind ∷ s ∷ []) lines) where
+    pub own-there : (l : LineRow) → x ≡ Line l → OwnLine l ≡ ownRule up lines s a
+    unfolding ownRule
+    own-there = by-there x (lineIn lines a itselfKind s) (sought itselfKind s e) OwnLine (groupRule up lines s a)
+
+    pub own-missing : (r : Rule) → x ≡ NoLine → r ≡ groupRule up lines s a → r ≡ ownRule up lines s a
+    unfolding ownRule
+    own-missing r h f = f ∙ by-missing x (lineIn lines a itselfKind s) (sought itselfKind s e) OwnLine (groupRule up lines s a) h
+
+  module _ (e : foundLine x ≡ find lineKey (a ∷ everyoneKind ∷ 0 ∷ []) lines) where
+    pub everyone-there : (l : LineRow) → x ≡ Line l → l .privileges ≡ lineSet (lineIn lines a everyoneKind 0)
+    everyone-there l h = rw (← sought everyoneKind 0 e, h)
+
+    pub everyone-missing : x ≡ NoLine → 0 ≡ lineSet (lineIn lines a everyoneKind 0)
+    everyone-missing h = rw (← sought everyoneKind 0 e, h)
+
+-- The lines that apply to s on an item whose row is x, question by question as in the code.
+module _ (t : Tables) (s : ℕ) (x : ItemRow) where
+  abbrev up : ℕ → ℕ
+  up = parentIn (t .subjects)
+
+  pub rule-custodian : s ≡ 0 → Custodian ≡ ruleOn t s x
+  unfolding decidingRule
+  rule-custodian h = rw (eq-eqb s 0 h)
+
+  pub everyone-custodian : s ≡ 0 → 0 ≡ everyoneOn t s x
+  unfolding everyoneSet
+  everyone-custodian h = rw (eq-eqb s 0 h)
+
+  module _ (some-s : s ≡ 0 → ⊥) where
+    pub rule-unlisted : x .list .0 ≡ 0 → NothingFound ≡ ruleOn t s x
+    unfolding decidingRule ownerRule ownRule groupRule
+    rule-unlisted z = rw (ne-eqb s 0 some-s, z, no-list up (t .lines) s 0 refl) (sym (either-way (eqb s (x .owner .0)) NothingFound))
+
+    pub everyone-unlisted : x .list .0 ≡ 0 → 0 ≡ everyoneOn t s x
+    unfolding everyoneSet
+    everyone-unlisted z = rw (ne-eqb s 0 some-s, z)
+
+    pub everyone-listed : (r : ℕ) → r ≡ lineSet (lineIn (t .lines) (x .list .0) everyoneKind 0) → r ≡ everyoneOn t s x
+    unfolding everyoneSet
+    everyone-listed r e = rw (ne-eqb s 0 some-s) e
+
+    pub rule-owner : (r : Rule) → s ≡ x .owner .0 → r ≡ ownerRule up (t .lines) s (x .list .0) → r ≡ ruleOn t s x
+    unfolding decidingRule
+    rule-owner r h e = rw (ne-eqb s 0 some-s, eq-eqb s (x .owner .0) h) e
+
+    pub rule-other : (r : Rule) → (s ≡ x .owner .0 → ⊥) → r ≡ ownRule up (t .lines) s (x .list .0) → r ≡ ruleOn t s x
+    unfolding decidingRule
+    rule-other r h e = rw (ne-eqb s 0 some-s, ne-eqb s (x .owner .0) h) e

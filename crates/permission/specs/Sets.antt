@@ -1,11 +1,14 @@
--- The sets of a subject, put together as the code does it.
+-- The sets of a subject, put together as the code does it, and their explanation.
 use mathlib.Core.Option.{Option}
 use mathlib.Core.Path.{_≡_, ap, _∙_}
 use Prim.Native.Nat.{ℕ}
+use Rattle.model.specs.declared.Explanation.{Explanation}
 use Rattle.model.specs.declared.GrantRow.{GrantRow}
 use Rattle.model.specs.declared.ItemRow.{ItemRow}
-use Rattle.model.specs.WhoAndWhat.{_∪_, _∩_}
-use Rattle.model.specs.Image.{Tables, privilegesIn, itemIn}
+use Rattle.model.specs.declared.Rule.{Rule}
+use Rattle.model.specs.WhoAndWhat.{everything, _∪_, _∩_}
+use Rattle.model.specs.Image.{Tables, widthIn, privilegesIn, itemIn}
+use Rattle.model.specs.Permission.{ruleNumber, ruleGroup, ruleSet, ruleOn, everyoneOn, explanationUnder, explanation}
 use Rattle.model.specs.Permission.{partOn, lentOperations, lentOn, grantOf}
 use Rattle.model.specs.Permission.{operationUnder, objectUnder, permissionUnder, operationSet, permissionSet}
 
@@ -28,6 +31,24 @@ module _ (t : Tables) (s : ℕ) (g : Option GrantRow) (a b r : ℕ) where
   unfolding permissionUnder
   permissions-cut i operations objects both = rw (← operations, ← objects) both
 
+-- the explanation, on an item whose row was read; the rule that was found has its number, its group and its set
+module _ (t : Tables) (s : ℕ) (g : Option GrantRow) (i : ℕ) where
+  pub explanation-made : (row : ItemRow) (rule : Rule) (all : ℕ) (e : Explanation)
+      → row ≡ itemIn (t .items) i
+      → rule ≡ ruleOn t s row
+      → all ≡ everything (widthIn t)
+      → e .number ≡ 0
+      → e .rule ≡ ruleNumber rule
+      → e .group ≡ ruleGroup rule
+      → e .«rule_set» ≡ ruleSet all rule
+      → e .«everyone_set» ≡ everyoneOn t s row
+      → e .«role_set» ≡ lentOn t g row
+      → e .operations ≡ operationUnder t s g
+      → e ≡ explanationUnder t s g i
+  unfolding explanationUnder
+  explanation-made row rule all e read deciding whole none number group given everyone lent operations =
+      rw (← read, ← deciding, ← whole, ← number, ← group, ← given, ← everyone, ← lent, ← operations, ← none)
+
 -- under the grant that was found for the claimed role
 module _ (t : Tables) (s role : ℕ) (g : Option GrantRow) (r : ℕ) (found : g ≡ grantOf t s role) where
   pub operations-claimed : r ≡ operationUnder t s g → r ≡ operationSet t s role
@@ -35,3 +56,7 @@ module _ (t : Tables) (s role : ℕ) (g : Option GrantRow) (r : ℕ) (found : g 
 
   pub permissions-claimed : (i : ℕ) → r ≡ permissionUnder t s g i → r ≡ permissionSet t s role i
   permissions-claimed i e = e ∙ ap (λ (x : Option GrantRow). permissionUnder t s x i) found
+
+module _ (t : Tables) (s role : ℕ) (g : Option GrantRow) (i : ℕ) (e : Explanation) where
+  pub explanation-claimed : g ≡ grantOf t s role → e ≡ explanationUnder t s g i → e ≡ explanation t s role i
+  explanation-claimed found is = is ∙ ap (λ (x : Option GrantRow). explanationUnder t s x i) found

@@ -1,16 +1,19 @@
-// The lines that apply to a subject. Like all functions that decide a permission, these take the image and its layout and
-// check neither. They are total: they answer by the tables that the layout cuts out of the image.
+// The lines that apply to a subject, and the rule by which they decide. Like all functions that decide a permission, these take
+// the image and its layout and check neither. They are total: they answer by the tables that the layout cuts out of the image.
 ghost use mathlib.Core.Logic.{_≢_};
 ghost use mathlib.Core.Path.{_≡_};
 ghost use lib.ListN.{getElem?};
-ghost use Rattle.model.specs.Lists.{orElse};
-ghost use Rattle.model.specs.Image.{parentIn};
-ghost use Rattle.model.specs.Permission.{foundLine, lineIn, groupLine, directLine};
+ghost use Rattle.model.specs.Image.{everyoneKind, parentIn};
+ghost use Rattle.model.specs.Permission.{lineIn, lineSet, groupLine, groupRule, ownRule, ownerRule, ruleOn, everyoneOn};
 ghost use Rattle.permission.specs.Climbing.{climbingLayout};
 ghost use Rattle.model.specs.Lent.{tablesAt};
+use model::CUSTODIAN;
 use model::Item;
+use model::ItemRow;
 use model::Layout;
 use model::LineRow;
+use model::Privileges;
+use model::Rule;
 use model::SoughtLine;
 use model::Subject;
 use model::Table;
@@ -20,24 +23,92 @@ use search::lines::find_line;
 use search::lines::line_index;
 use tables::subjects::parent_of;
 
-// The line of a list for a kind and a subject. No list means no lines.
-pub fn line_of(image: &[u8], layout: Layout, list: Item, kind: u32, subject: Subject) -> SoughtLine
-    ensures { λ r. ⌜ foundLine r ≡ lineIn (tablesAt layout (image .entry) .lines) (list .0) kind (subject .0) ⌝ }
-{
-    if list.0 == 0 {
-        return SoughtLine::NoLine;
-    }
-    find_line(image, layout, list, kind, subject)
+// The lines that apply to a subject on an item: the rule that decides, with its line, and what the line for everyone adds.
+pub struct AppliedLines {
+    pub rule: Rule,
+    pub everyone: Privileges,
 }
 
-// The lowest group line above a subject.
-pub fn group_line(image: &[u8], layout: Layout, subject: Subject, list: Item) -> SoughtLine
-    ensures { λ r. let t = tablesAt layout (image .entry) in
-        ⌜ foundLine r ≡ groupLine (parentIn (t .subjects)) (t .lines) (subject .0) (list .0) ⌝ }
+// The item's row is handed in. The custodian needs no line, and no list means no lines. The line for everyone is looked up first.
+// What it adds is joined with what the rule gives, so the order decides nothing but speed, and this one was measured to be faster
+// (docs/DECISIONS.md, D9).
+pub fn applied_lines(image: &[u8], layout: Layout, subject: Subject, item: ItemRow) -> AppliedLines
+    ensures { λ r. ⌜ r .rule ≡ ruleOn (tablesAt layout (image .entry)) (subject .0) item ⌝ }
+    ensures { λ r. ⌜ r .everyone ≡ everyoneOn (tablesAt layout (image .entry)) (subject .0) item ⌝ }
 {
-    if list.0 == 0 {
-        return SoughtLine::NoLine;
+    if subject.0 == CUSTODIAN {
+        return AppliedLines {
+            rule: Rule::Custodian,
+            everyone: 0,
+        };
     }
+    if item.list.0 == 0 {
+        return AppliedLines {
+            rule: Rule::NothingFound,
+            everyone: 0,
+        };
+    }
+    let everyone = everyone_set(image, layout, item.list);
+    let rule = line_rule(image, layout, subject, item);
+    AppliedLines { rule, everyone }
+}
+
+// The privileges of a list's line for everyone; without one, none.
+fn everyone_set(image: &[u8], layout: Layout, list: Item) -> Privileges
+    requires { ⌜ list .0 ≢ 0 ⌝ }
+    ensures { λ r. ⌜ r ≡ lineSet (lineIn (tablesAt layout (image .entry) .lines) (list .0) everyoneKind 0) ⌝ }
+{
+    let found = find_line(image, layout, list, LineRow::EVERYONE, Subject(0));
+    match found {
+        SoughtLine::Line(line) => line.privileges,
+        SoughtLine::NoLine => 0,
+    }
+}
+
+// The rule by which the lines of an item's list decide for a subject.
+fn line_rule(image: &[u8], layout: Layout, subject: Subject, item: ItemRow) -> Rule
+    requires { ⌜ subject .0 ≢ 0 ⌝ }
+    requires { ⌜ item .list .0 ≢ 0 ⌝ }
+    ensures { λ r. ⌜ r ≡ ruleOn (tablesAt layout (image .entry)) (subject .0) item ⌝ }
+{
+    if subject.0 == item.owner.0 {
+        return owner_rule(image, layout, subject, item.list);
+    }
+    own_rule(image, layout, subject, item.list)
+}
+
+// The rule for an item's owner: the owner line, even if that holds 0, or else the group's line.
+fn owner_rule(image: &[u8], layout: Layout, subject: Subject, list: Item) -> Rule
+    requires { ⌜ list .0 ≢ 0 ⌝ }
+    ensures { λ r. let t = tablesAt layout (image .entry) in
+        ⌜ r ≡ ownerRule (parentIn (t .subjects)) (t .lines) (subject .0) (list .0) ⌝ }
+{
+    let found = find_line(image, layout, list, LineRow::OWNER, Subject(0));
+    match found {
+        SoughtLine::Line(line) => Rule::OwnerLine(line),
+        SoughtLine::NoLine => group_rule(image, layout, subject, list),
+    }
+}
+
+// The rule for anybody else: the subject's own line, even if that holds 0, or else the group's line.
+fn own_rule(image: &[u8], layout: Layout, subject: Subject, list: Item) -> Rule
+    requires { ⌜ list .0 ≢ 0 ⌝ }
+    ensures { λ r. let t = tablesAt layout (image .entry) in
+        ⌜ r ≡ ownRule (parentIn (t .subjects)) (t .lines) (subject .0) (list .0) ⌝ }
+{
+    let found = find_line(image, layout, list, LineRow::ITSELF, subject);
+    match found {
+        SoughtLine::Line(line) => Rule::OwnLine(line),
+        SoughtLine::NoLine => group_rule(image, layout, subject, list),
+    }
+}
+
+// The rule by which groups decide: the lowest group line above a subject, or that nothing was found.
+fn group_rule(image: &[u8], layout: Layout, subject: Subject, list: Item) -> Rule
+    requires { ⌜ list .0 ≢ 0 ⌝ }
+    ensures { λ r. let t = tablesAt layout (image .entry) in
+        ⌜ r ≡ groupRule (parentIn (t .subjects)) (t .lines) (subject .0) (list .0) ⌝ }
+{
     let subjects = layout.subjects;
     let lines = layout.lines;
     let n = group_index(
@@ -50,9 +121,9 @@ pub fn group_line(image: &[u8], layout: Layout, subject: Subject, list: Item) ->
         list,
     );
     if lines.used <= n {
-        return SoughtLine::NoLine;
+        return Rule::NothingFound;
     }
-    SoughtLine::Line(line_at(image, layout, n))
+    Rule::GroupLine(line_at(image, layout, n))
 }
 
 // The index of that line, or the number of lines in use if there is none. The search goes up by recursion on the subject's
@@ -118,40 +189,5 @@ fn climbing_layout(
             end: 0,
         },
         items: none,
-    }
-}
-
-// The owner's line for the owner, the subject's own line for anybody else.
-pub fn direct_line(
-    image: &[u8],
-    layout: Layout,
-    subject: Subject,
-    owner: Subject,
-    list: Item,
-) -> SoughtLine
-    ensures { λ r. ⌜ foundLine r ≡ directLine (tablesAt layout (image .entry) .lines) (subject .0) (owner .0) (list .0) ⌝ }
-{
-    if subject.0 == owner.0 {
-        return line_of(image, layout, list, LineRow::OWNER, Subject(0));
-    }
-    line_of(image, layout, list, LineRow::ITSELF, subject)
-}
-
-// The line that decides for a subject: its direct line, even if that holds 0, or else the group's line.
-pub fn deciding_line(
-    image: &[u8],
-    layout: Layout,
-    subject: Subject,
-    owner: Subject,
-    list: Item,
-) -> SoughtLine
-    ensures { λ r. let t = tablesAt layout (image .entry) in
-        ⌜ foundLine r ≡ orElse (directLine (t .lines) (subject .0) (owner .0) (list .0))
-        (groupLine (parentIn (t .subjects)) (t .lines) (subject .0) (list .0)) ⌝ }
-{
-    let direct = direct_line(image, layout, subject, owner, list);
-    match direct {
-        SoughtLine::Line(own) => SoughtLine::Line(own),
-        SoughtLine::NoLine => group_line(image, layout, subject, list),
     }
 }

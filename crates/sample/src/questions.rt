@@ -3,6 +3,7 @@ use super::printing::end_line;
 use super::printing::print_answer;
 use super::printing::print_number;
 use asking::editor::find_editor;
+use asking::explanation::explain;
 use asking::lines::lines_of;
 use asking::lines::list_count;
 use asking::lines::list_start;
@@ -14,20 +15,23 @@ use model::Item;
 use model::Role;
 use model::Subject;
 
-// The twelve permission sets, and one case of each other call that asks but `check`.
+// The twelve permission sets, each with its explanation, two explanations that are refused, and one case of each other call that
+// asks but `check`.
 pub fn print_questions(image: &[u8]) {
-    print_permission(image, 2, 0, 2);
-    print_permission(image, 2, 0, 3);
-    print_permission(image, 5, 0, 2);
-    print_permission(image, 4, 0, 2);
-    print_permission(image, 4, 7, 2);
-    print_permission(image, 4, 0, 3);
-    print_permission(image, 4, 7, 3);
-    print_permission(image, 4, 9, 2);
-    print_permission(image, 1, 0, 2);
-    print_permission(image, 3, 0, 2);
-    print_permission(image, 2, 0, 4);
-    print_permission(image, 0, 0, 4);
+    print_case(image, 2, 0, 2);
+    print_case(image, 2, 0, 3);
+    print_case(image, 5, 0, 2);
+    print_case(image, 4, 0, 2);
+    print_case(image, 4, 7, 2);
+    print_case(image, 4, 0, 3);
+    print_case(image, 4, 7, 3);
+    print_case(image, 4, 9, 2);
+    print_case(image, 1, 0, 2);
+    print_case(image, 3, 0, 2);
+    print_case(image, 2, 0, 4);
+    print_case(image, 0, 0, 4);
+    print_explanation(image, 6, 0, 2);
+    print_explanation(image, 2, 0, 5);
     ask_operations(image, 4, 7);
     end_line();
     print_lines(image, 1);
@@ -67,8 +71,28 @@ fn print_check(name: &[u8], image: &[u8]) {
     end_line();
 }
 
+fn print_case(image: &[u8], subject: u32, role: u32, item: u32) {
+    print_permission(image, subject, role, item);
+    print_explanation(image, subject, role, item);
+}
+
 pub fn print_permission(image: &[u8], subject: u32, role: u32, item: u32) {
     ask_permission(image, subject, role, item);
+    end_line();
+}
+
+fn print_explanation(image: &[u8], subject: u32, role: u32, item: u32) {
+    print_number(b"explain subject ", subject);
+    print_number(b" role ", role);
+    print_number(b" item ", item);
+    let why = explain(image, Subject(subject), Role(role), Item(item));
+    print_number(b": number ", why.number);
+    print_number(b" rule ", why.rule);
+    print_number(b" group ", why.group);
+    print_number(b" rule_set ", why.rule_set);
+    print_number(b" everyone_set ", why.everyone_set);
+    print_number(b" role_set ", why.role_set);
+    print_number(b" operations ", why.operations);
     end_line();
 }
 

@@ -17,6 +17,7 @@ use Rattle.model.specs.Questions.{answer, Accepted, ask, act}
 -- The calls that only read the image.
 pub data Reading : Type 0 where
   asks : Ask → Reading
+  explains : (subject role item : ℕ) → Reading
   showsLines : (list : ℕ) → Reading
   searchesEditor : (list : ℕ) → Reading
 

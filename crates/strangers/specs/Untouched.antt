@@ -15,7 +15,7 @@ use Rattle.model.specs.Tree.{inTree}
 use Rattle.model.specs.WhoAndWhat.{editList, has, _∩_}
 use Rattle.model.specs.Image.{Tables, itselfKind, ownerKind, everyoneKind, grantKey, grantRules}
 use Rattle.model.specs.Image.{subjectIn, parentIn, privilegesIn, subjectUsed, itemIn, itemUsed}
-use Rattle.model.specs.Permission.{lineIn, directLine, partOf, linesPart, grantOf, lentOperations, lentPart}
+use Rattle.model.specs.Permission.{lineIn, groupRule, ownRule, ownerRule, decidingRule, everyoneSet, partOn, linesPart, grantOf, lentOperations, lentPart}
 use Rattle.model.specs.Permission.{operationUnder, objectUnder, permissionUnder, permissionSet}
 use Rattle.laws.specs.Tests.{and-l, and-r, or-cases, All-map, All-both, All-self}
 use Rattle.laws.specs.Sorted.{IfSome, All-find}
@@ -95,7 +95,7 @@ module _ (t : Tables) (document : ℕ) where
 
     -- the lines' part on a watched item is the same
     pub part-same : (s i : ℕ) → T (subjectUsed (t .subjects) s) → Watched t document i → linesPart u s i ≡ linesPart t s i
-    unfolding partOf directLine
+    unfolding partOn decidingRule ownerRule ownRule groupRule everyoneSet
     part-same s i present w =
         let agree : (k x : ℕ) → lineIn (u .lines) (listOf t i) k x ≡ lineIn (t .lines) (listOf t i) k x =
         own-lines-agree (listOf t i) (watched-list t document w) in
