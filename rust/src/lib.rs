@@ -82,6 +82,7 @@ mod bits;
 mod bytes;
 mod capacities;
 mod changing;
+mod explanation;
 #[allow(unsafe_code)]
 mod ffi;
 mod fields;
@@ -92,11 +93,14 @@ mod row;
 mod rows;
 mod tables;
 
-pub use asking::{check, find_editor, lines_of, list_count, operation_set, permission_set};
+pub use asking::{
+    check, explain, find_editor, lines_of, list_count, operation_set, permission_set,
+};
 pub use capacities::Capacities;
 pub use changing::{
     bind, create_item, define_subject, hand_over, remove_grant, remove_line, set_grant, set_line,
 };
+pub use explanation::{Explanation, Rule};
 pub use fields::{Flags, Kind};
 pub use numbers::{Item, Role, Subject};
 pub use privileges::Privileges;
