@@ -75,6 +75,51 @@ static uint32_t set_of(dacm_subject subject, dacm_item item)
     return dacm_permission_set(image, LENGTH, subject, no_role, item).result;
 }
 
+static int same(dacm_explanation one, dacm_explanation other)
+{
+    return one.number == other.number && one.rule == other.rule && one.group == other.group
+        && one.rule_set == other.rule_set && one.everyone_set == other.everyone_set && one.role_set == other.role_set
+        && one.operations == other.operations;
+}
+
+static void explained(dacm_subject subject, dacm_role role, dacm_item item, dacm_explanation explanation)
+{
+    expect(same(dacm_explain(image, LENGTH, subject, role, item), explanation));
+    expect(dacm_permission_set(image, LENGTH, subject, role, item).result
+           == (explanation.operations & (explanation.rule_set | explanation.everyone_set | explanation.role_set)));
+    expect(unchanged());
+}
+
+/* A refused explanation has 0 in every field but the number. */
+static void unexplained(dacm_explanation answer, uint32_t number)
+{
+    dacm_explanation refusal = {0};
+    refusal.number = number;
+    expect(same(answer, refusal));
+    expect(unchanged());
+}
+
+/* The initializers are the fields in their order: number, rule, group, sets of rule, everyone and role, operations. */
+static void explain(void)
+{
+    fresh();
+    explained(custodian, no_role, unlisted, (dacm_explanation){0, DACM_RULE_CUSTODIAN, 0, DACM_ALL, 0, 0, DACM_ALL});
+    explained(custodian, no_role, document, (dacm_explanation){0, DACM_RULE_CUSTODIAN, 0, DACM_ALL, 0, 0, DACM_ALL});
+    explained(second, no_role, document, (dacm_explanation){0, DACM_RULE_OWNER_LINE, 0, 7, DACM_READ, 0, 91});
+    explained(fifth, no_role, document, (dacm_explanation){0, DACM_RULE_OWN_LINE, 0, 0, DACM_READ, 0, 3});
+    explained(fourth, seventh, document,
+              (dacm_explanation){0, DACM_RULE_OWN_LINE, 0, DACM_ANNOTATE, DACM_READ, DACM_READ | DACM_REPLACE, 11});
+    explained(second, no_role, list, (dacm_explanation){0, DACM_RULE_GROUP_LINE, first.number, 3, DACM_READ, 0, 91});
+    explained(third, no_role, document, (dacm_explanation){0, DACM_RULE_NOTHING_FOUND, 0, 0, DACM_READ, 0, 73});
+    explained(second, no_role, unlisted, (dacm_explanation){0, DACM_RULE_NOTHING_FOUND, 0, 0, 0, 0, 91});
+
+    unexplained(dacm_explain(image, 35, second, no_role, document), DACM_BAD_LENGTH);
+    unexplained(dacm_explain(image, LENGTH - 1, second, no_role, document), DACM_BAD_LAYOUT);
+    unexplained(dacm_explain(image, LENGTH, nobody, no_role, nothing), DACM_UNKNOWN_CALLER);
+    unexplained(dacm_explain(image, LENGTH, second, no_role, nothing), DACM_UNKNOWN_ITEM);
+    unexplained(dacm_explain(image, LENGTH, second, no_role, none), DACM_UNKNOWN_ITEM);
+}
+
 static void ask(void)
 {
     fresh();
@@ -175,6 +220,7 @@ static void change_items(void)
 int main(void)
 {
     ask();
+    explain();
     change_subjects_and_grants();
     change_lines();
     change_items();
