@@ -99,10 +99,10 @@ typedef struct { uint32_t number; uint32_t result; } dacm_answer;
 typedef struct {
     uint32_t number;       /* DACM_DONE, or the refusal */
     uint32_t rule;         /* the rule that decided */
-    uint32_t group;        /* DACM_RULE_GROUP_LINE: the subject whose group line decided, also 0; other rules: 0 */
-    uint32_t rule_set;     /* what that rule gives: DACM_ALL, the privileges of the line (also 0), or 0 */
-    uint32_t everyone_set; /* what the line for everyone adds; 0 without one, and for the custodian */
-    uint32_t role_set;     /* what the role adds on this item */
+    uint32_t group;        /* for DACM_RULE_GROUP_LINE the subject whose group line decided, maybe 0; otherwise 0 */
+    uint32_t rule_set;     /* what that rule gives: DACM_ALL, the privileges of the line, or 0 if nothing was found */
+    uint32_t everyone_set; /* what the line for everyone adds: 0 without such a line, and for the custodian */
+    uint32_t role_set;     /* what the role adds on this item, whether or not it is in the operation set */
     uint32_t operations;   /* the operation set */
 } dacm_explanation;
 

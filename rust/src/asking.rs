@@ -18,7 +18,7 @@ pub fn operation_set(image: &[u8], subject: Subject, role: Role) -> Result<Privi
         .map(Privileges)
 }
 
-/// The permission set: what a subject under a role may do with an item.
+/// The permission set: what a subject under a role may do with an item. [`explain`] says why.
 ///
 /// A role that is not granted to the subject adds nothing and is no refusal.
 pub fn permission_set(

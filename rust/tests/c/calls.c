@@ -93,25 +93,40 @@ static void explained(dacm_subject subject, dacm_role role, dacm_item item, dacm
 /* A refused explanation has 0 in every field but the number. */
 static void unexplained(dacm_explanation answer, uint32_t number)
 {
-    dacm_explanation refusal = {0};
-    refusal.number = number;
+    dacm_explanation refusal = {.number = number};
     expect(same(answer, refusal));
     expect(unchanged());
 }
 
-/* The initializers are the fields in their order: number, rule, group, sets of rule, everyone and role, operations. */
+/* A field that is not named is 0. */
 static void explain(void)
 {
     fresh();
-    explained(custodian, no_role, unlisted, (dacm_explanation){0, DACM_RULE_CUSTODIAN, 0, DACM_ALL, 0, 0, DACM_ALL});
-    explained(custodian, no_role, document, (dacm_explanation){0, DACM_RULE_CUSTODIAN, 0, DACM_ALL, 0, 0, DACM_ALL});
-    explained(second, no_role, document, (dacm_explanation){0, DACM_RULE_OWNER_LINE, 0, 7, DACM_READ, 0, 91});
-    explained(fifth, no_role, document, (dacm_explanation){0, DACM_RULE_OWN_LINE, 0, 0, DACM_READ, 0, 3});
-    explained(fourth, seventh, document,
-              (dacm_explanation){0, DACM_RULE_OWN_LINE, 0, DACM_ANNOTATE, DACM_READ, DACM_READ | DACM_REPLACE, 11});
-    explained(second, no_role, list, (dacm_explanation){0, DACM_RULE_GROUP_LINE, first.number, 3, DACM_READ, 0, 91});
-    explained(third, no_role, document, (dacm_explanation){0, DACM_RULE_NOTHING_FOUND, 0, 0, DACM_READ, 0, 73});
-    explained(second, no_role, unlisted, (dacm_explanation){0, DACM_RULE_NOTHING_FOUND, 0, 0, 0, 0, 91});
+    dacm_explanation custodians = {.rule = DACM_RULE_CUSTODIAN, .rule_set = DACM_ALL, .operations = DACM_ALL};
+    explained(custodian, no_role, document, custodians);
+    explained(custodian, no_role, unlisted, custodians);
+
+    dacm_explanation owners = {.rule = DACM_RULE_OWNER_LINE, .rule_set = 7, .everyone_set = 1, .operations = 91};
+    explained(second, no_role, document, owners);
+
+    dacm_explanation denied = {.rule = DACM_RULE_OWN_LINE, .rule_set = 0, .everyone_set = 1, .operations = 3};
+    explained(fifth, no_role, document, denied);
+
+    dacm_explanation under_role = {
+        .rule = DACM_RULE_OWN_LINE, .rule_set = 8, .everyone_set = 1, .role_set = 3, .operations = 11
+    };
+    explained(fourth, seventh, document, under_role);
+
+    dacm_explanation by_group = {
+        .rule = DACM_RULE_GROUP_LINE, .group = first.number, .rule_set = 3, .everyone_set = 1, .operations = 91
+    };
+    explained(second, no_role, list, by_group);
+
+    dacm_explanation not_found = {.rule = DACM_RULE_NOTHING_FOUND, .everyone_set = 1, .operations = 73};
+    explained(third, no_role, document, not_found);
+
+    dacm_explanation without_list = {.rule = DACM_RULE_NOTHING_FOUND, .operations = 91};
+    explained(second, no_role, unlisted, without_list);
 
     unexplained(dacm_explain(image, 35, second, no_role, document), DACM_BAD_LENGTH);
     unexplained(dacm_explain(image, LENGTH - 1, second, no_role, document), DACM_BAD_LAYOUT);
