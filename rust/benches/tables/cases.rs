@@ -63,6 +63,8 @@ fn sample_case() -> Case {
     }
 }
 
+/// On the item that is asked about, the receiver's role adds only to the operation set. The deputy's
+/// has a part there too.
 fn mixed_case() -> Case {
     let tables = images::mixed();
     let [receiver, role, ..] = middle(&tables.grants.rows);
