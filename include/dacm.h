@@ -28,9 +28,9 @@ extern "C" {
 
 /* The version of this header. */
 #define DACM_VERSION_MAJOR 0
-#define DACM_VERSION_MINOR 1
+#define DACM_VERSION_MINOR 2
 #define DACM_VERSION_PATCH 0
-#define DACM_VERSION "0.1.0"
+#define DACM_VERSION "0.2.0"
 
 /* The stack that a call may need. */
 #define DACM_STACK_BYTES 524288
@@ -84,6 +84,28 @@ typedef struct { uint32_t number; uint32_t result; } dacm_answer;
 #define DACM_IS_LIST UINT32_C(1)
 #define DACM_LOCKED  UINT32_C(2)
 
+/* The rules of an explanation. The first that applies decides. */
+#define DACM_RULE_CUSTODIAN     UINT32_C(1) /* the subject is the custodian, who has every privilege */
+#define DACM_RULE_OWNER_LINE    UINT32_C(2) /* the subject owns the item, and the list has a line for the owner */
+#define DACM_RULE_OWN_LINE      UINT32_C(3) /* the subject does not own the item, and the list has a line for it */
+#define DACM_RULE_GROUP_LINE    UINT32_C(4) /* the list has a line for a group above the subject; the nearest decides */
+#define DACM_RULE_NOTHING_FOUND UINT32_C(5) /* there is no such line, or no list */
+
+/*
+ * Which rule decided, and what makes up the permission set: it is the privileges in `operations` that are also in
+ * `rule_set`, `everyone_set` or `role_set`. A refused call has 0 in every field but the number. A newer version may
+ * append fields, so header and archive must be of one version.
+ */
+typedef struct {
+    uint32_t number;       /* DACM_DONE, or the refusal */
+    uint32_t rule;         /* the rule that decided */
+    uint32_t group;        /* for DACM_RULE_GROUP_LINE the subject whose group line decided, maybe 0; otherwise 0 */
+    uint32_t rule_set;     /* what that rule gives: DACM_ALL, the privileges of the line, or 0 if nothing was found */
+    uint32_t everyone_set; /* what the line for everyone adds: 0 without such a line, and for the custodian */
+    uint32_t role_set;     /* what the role adds on this item, whether or not it is in the operation set */
+    uint32_t operations;   /* the operation set */
+} dacm_explanation;
+
 /* The calls that ask. */
 
 /* Is this an image that the other calls work on? */
@@ -95,6 +117,10 @@ dacm_answer dacm_operation_set(const uint8_t *image, size_t length, dacm_subject
 /* Result: the permission set of a subject under a role on an item. */
 dacm_answer dacm_permission_set(const uint8_t *image, size_t length, dacm_subject subject, dacm_role role,
                                 dacm_item item);
+
+/* Which rule decided that permission set, and what makes it up. It is refused where dacm_permission_set is. */
+dacm_explanation dacm_explain(const uint8_t *image, size_t length, dacm_subject subject, dacm_role role,
+                              dacm_item item);
 
 /* Result: how many lines a list has. They are consecutive in the image, 16 bytes each. */
 dacm_answer dacm_list_count(const uint8_t *image, size_t length, dacm_item list);

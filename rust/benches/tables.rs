@@ -7,6 +7,9 @@
 mod call;
 #[path = "tables/cases.rs"]
 mod cases;
+#[allow(dead_code)]
+#[path = "../tests/support/explanation.rs"]
+mod explanation;
 #[path = "tables/images.rs"]
 mod images;
 #[path = "tables/printing.rs"]

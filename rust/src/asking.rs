@@ -1,6 +1,6 @@
 //! The calls that ask. None of them changes the image.
 
-use crate::{ffi, Item, LineRow, Privileges, Refusal, Role, Row, Subject};
+use crate::{ffi, Explanation, Item, LineRow, Privileges, Refusal, Role, Row, Subject};
 
 /// Is this an image that the other calls work on?
 ///
@@ -18,7 +18,7 @@ pub fn operation_set(image: &[u8], subject: Subject, role: Role) -> Result<Privi
         .map(Privileges)
 }
 
-/// The permission set: what a subject under a role may do with an item.
+/// The permission set: what a subject under a role may do with an item. [`explain`] says why.
 ///
 /// A role that is not granted to the subject adds nothing and is no refusal.
 pub fn permission_set(
@@ -30,6 +30,54 @@ pub fn permission_set(
     ffi::permission_set(image, subject, role, item)
         .result()
         .map(Privileges)
+}
+
+/// Which rule decided the permission set, and what makes it up. For whoever has to say why a subject
+/// may or may not do something with an item.
+///
+/// It is refused where [`permission_set`] is.
+///
+/// ```
+/// use dacm::{Capacities, Flags, Item, Kind, Privileges, Refusal, Role, Rule, Subject};
+///
+/// # fn main() -> Result<(), Refusal> {
+/// # let (custodian, no_role) = (Subject::CUSTODIAN, Role::NONE);
+/// # let capacities = Capacities { subjects: 2, grants: 0, lines: 2, items: 1 };
+/// # let mut image = capacities.empty_image()?;
+/// let his = Privileges::READ | Privileges::REPLACE;
+/// let technician = dacm::define_subject(&mut image, custodian, no_role, custodian, his)?;
+/// let list = dacm::create_item(&mut image, custodian, no_role, Item::NONE, Flags::IS_LIST)?;
+/// dacm::bind(&mut image, custodian, list, list)?;
+/// let (own, none) = (Kind::ITSELF, Privileges::NONE);
+/// dacm::set_line(&mut image, custodian, no_role, list, own, technician, none)?;
+/// let (everyone, read) = (Kind::EVERYONE, Privileges::READ);
+/// dacm::set_line(&mut image, custodian, no_role, list, everyone, custodian, read)?;
+///
+/// // Why may the technician not replace the list?
+/// let explanation = dacm::explain(&image, technician, no_role, list)?;
+/// assert_eq!(explanation.rule, Rule::OwnLine);
+/// assert_eq!(explanation.rule_set, Privileges::NONE);
+/// assert_eq!(explanation.everyone_set, Privileges::READ);
+/// assert_eq!(explanation.operations, his);
+/// assert_eq!(
+///     explanation.to_string(),
+///     "The subject's own line decided and gives nothing; everyone's line adds read; the role adds \
+///      nothing; of these the operation set lets through read."
+/// );
+///
+/// // Put together, this is the permission set.
+/// let set = dacm::permission_set(&image, technician, no_role, list)?;
+/// assert_eq!(explanation.permission_set(), set);
+/// # Ok(())
+/// # }
+/// ```
+pub fn explain(
+    image: &[u8],
+    subject: Subject,
+    role: Role,
+    item: Item,
+) -> Result<Explanation, Refusal> {
+    ffi::explain(image, subject, role, item).result()
 }
 
 /// How many lines a list has.

@@ -1,6 +1,6 @@
 //! The functions of `dacm.h`, and the only unsafe code of this crate.
 
-use crate::{Flags, Item, Kind, Privileges, Refusal, Role, Subject};
+use crate::{Flags, Item, Kind, Privileges, Refusal, Role, Rule, Subject};
 
 /// What a call answers: number 0 and its result, or the refusal and result 0.
 #[repr(C)]
@@ -22,6 +22,35 @@ impl Answer {
     /// The same for a call that names no result.
     pub(crate) fn done(self) -> Result<(), Refusal> {
         self.result().map(|_| ())
+    }
+}
+
+/// What `dacm_explain` answers: number 0 and the explanation, or the refusal and 0 in every field.
+#[repr(C)]
+#[derive(Clone, Copy)]
+pub(crate) struct Explanation {
+    number: u32,
+    rule: u32,
+    group: Subject,
+    rule_set: Privileges,
+    everyone_set: Privileges,
+    role_set: Privileges,
+    operations: Privileges,
+}
+
+impl Explanation {
+    /// The explanation, or the refusal of the call.
+    pub(crate) fn result(self) -> Result<crate::Explanation, Refusal> {
+        match self.number {
+            0 => Ok(crate::Explanation {
+                rule: Rule::from_number(self.rule, self.group),
+                rule_set: self.rule_set,
+                everyone_set: self.everyone_set,
+                role_set: self.role_set,
+                operations: self.operations,
+            }),
+            number => Err(Refusal::from_number(number)),
+        }
     }
 }
 
@@ -62,6 +91,7 @@ calls_that_ask! {
     fn check = dacm_check() -> Answer;
     fn operation_set = dacm_operation_set(subject: Subject, role: Role) -> Answer;
     fn permission_set = dacm_permission_set(subject: Subject, role: Role, item: Item) -> Answer;
+    fn explain = dacm_explain(subject: Subject, role: Role, item: Item) -> Explanation;
     fn list_count = dacm_list_count(list: Item) -> Answer;
     fn list_start = dacm_list_start(list: Item) -> usize;
     fn find_editor = dacm_find_editor(list: Item) -> Answer;

@@ -17,7 +17,7 @@
 //! [`Capacities`] makes an empty image, the calls fill it, and [`Tables`] shows what it holds:
 //!
 //! ```
-//! use dacm::{Capacities, Flags, Item, Kind, Privileges, Refusal, Role, Subject, Tables};
+//! use dacm::{Capacities, Flags, Item, Kind, Privileges, Refusal, Role, Rule, Subject, Tables};
 //!
 //! # fn main() -> Result<(), Refusal> {
 //! // The custodian, and free rows for 2 more subjects, 1 grant, 2 lines and 2 items.
@@ -41,6 +41,10 @@
 //! let set = dacm::permission_set(&image, technician, no_role, document)?;
 //! assert!(set.contains(Privileges::READ));
 //! assert_eq!(set.to_string(), "read");
+//!
+//! // Why that? The line for whoever is below the engineer decided.
+//! let explanation = dacm::explain(&image, technician, no_role, document)?;
+//! assert_eq!(explanation.rule, Rule::GroupLine(engineer));
 //!
 //! // The technician may not edit the list, and a refused call changes nothing.
 //! let before = image.clone();
@@ -82,6 +86,7 @@ mod bits;
 mod bytes;
 mod capacities;
 mod changing;
+mod explanation;
 #[allow(unsafe_code)]
 mod ffi;
 mod fields;
@@ -92,11 +97,14 @@ mod row;
 mod rows;
 mod tables;
 
-pub use asking::{check, find_editor, lines_of, list_count, operation_set, permission_set};
+pub use asking::{
+    check, explain, find_editor, lines_of, list_count, operation_set, permission_set,
+};
 pub use capacities::Capacities;
 pub use changing::{
     bind, create_item, define_subject, hand_over, remove_grant, remove_line, set_grant, set_line,
 };
+pub use explanation::{Explanation, Rule};
 pub use fields::{Flags, Kind};
 pub use numbers::{Item, Role, Subject};
 pub use privileges::Privileges;

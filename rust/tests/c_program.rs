@@ -1,7 +1,7 @@
 //! The library from C: programs that include its header are compiled, linked with the archive and
 //! run. And the header's names are those of the Rust crate.
 
-use dacm::{Flags, Kind, Privileges, Refusal};
+use dacm::{Flags, Kind, Privileges, Refusal, Rule, Subject};
 use std::collections::BTreeMap;
 use std::io::ErrorKind;
 use std::path::{Path, PathBuf};
@@ -109,6 +109,14 @@ fn the_names_of_the_header() {
         ("EVERYONE", Kind::EVERYONE.0),
         ("IS_LIST", Flags::IS_LIST.0),
         ("LOCKED", Flags::LOCKED.0),
+        ("RULE_CUSTODIAN", Rule::Custodian.number()),
+        ("RULE_OWNER_LINE", Rule::OwnerLine.number()),
+        ("RULE_OWN_LINE", Rule::OwnLine.number()),
+        (
+            "RULE_GROUP_LINE",
+            Rule::GroupLine(Subject::CUSTODIAN).number(),
+        ),
+        ("RULE_NOTHING_FOUND", Rule::NothingFound.number()),
     ];
     let others = others.map(|(name, number)| (name.to_string(), number));
     let in_header: BTreeMap<String, u32> = numbers.collect();

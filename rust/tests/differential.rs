@@ -1,12 +1,13 @@
 //! Every call on random, damaged and extreme images: the library against the twin, and the yardstick
 //! beside them.
 //!
-//! Compared are the number, the result, the slice that `lines_of` shows, and every byte of the image
-//! afterwards. Of the editor search's result, the twin only checks that the subject may be named.
+//! Compared are the number, the result, the slice that `lines_of` shows, every field of an
+//! explanation, and every byte of the image afterwards. Of the editor search's result, the twin only
+//! checks that the subject may be named.
 //!
 //! The test of accepted images demands at its end that each call was accepted, and refused with each
 //! of its own questions. The test of damaged images demands that each call was refused with each of
-//! the questions 1 to 7.
+//! the questions 1 to 7. The test of explanations demands that there was one of each sort.
 
 mod support;
 mod twin;
@@ -15,10 +16,12 @@ mod yardstick;
 use std::collections::BTreeSet;
 use support::boundary::{boundary_images, telling_tables, Boundary};
 use support::call::Call;
-use support::choose::Chooser;
+use support::choose::{Chooser, ROLES};
 use support::compare::compare;
 use support::coverage::Coverage;
 use support::damage::{damage, telling_values};
+use support::examples::Examples;
+use support::explanation::Question;
 use support::libraries::Size;
 use support::random::Random;
 use support::rounds;
@@ -46,6 +49,49 @@ fn damaged_images() {
         each_call_on_a_copy(random, &tables, &image, &seed, coverage);
     }
     coverage.assert_common_questions();
+}
+
+/// Everything that explain can be asked about small libraries: each subject under each role on each
+/// item, and numbers that are not in use.
+#[test]
+fn explanations() {
+    let mut examples = Examples::default();
+    for seed in 0..rounds(2_000) {
+        let random = &mut Random::new(seed);
+        let tables = Size::small(random).library(random);
+        let mut image = tables.image();
+        let seed = format!("a small library, seed {seed}");
+        for question in every_question(&tables) {
+            let outcome = compare(&mut image, &question.call(), &seed);
+            assert_eq!(outcome.number, refusal(&tables, &question), "{question:?}");
+            let explanation = outcome.explanation.expect("it is an explanation");
+            examples.saw(&tables, &question, &explanation);
+        }
+    }
+    examples.assert_all_seen();
+}
+
+fn every_question(tables: &Tables) -> Vec<Question> {
+    let mut questions = Vec::new();
+    for subject in 0..=tables.subjects.used() as u32 {
+        for role in [0].into_iter().chain(ROLES) {
+            for item in 0..=tables.items.used() as u32 + 1 {
+                questions.push(Question::new(subject, role, item));
+            }
+        }
+    }
+    questions
+}
+
+/// The refusal on an accepted image: question 10 is asked before question 12.
+fn refusal(tables: &Tables, question: &Question) -> u32 {
+    if question.subject as usize >= tables.subjects.used() {
+        10
+    } else if !(1..=tables.items.used()).contains(&(question.item as usize)) {
+        12
+    } else {
+        0
+    }
 }
 
 /// Every field of the sample and of some random images, replaced in turn by every value that is

@@ -8,6 +8,9 @@ mod yardstick;
 use support::boundary::custodian_only;
 use support::call::{Call, Outcome};
 use support::compare::compare;
+use support::explanation::{
+    Explanation, Question, CUSTODIAN, GROUP_LINE, NOTHING_FOUND, OWNER_LINE, OWN_LINE,
+};
 use support::sample::{sample, EVERYONE, GROUP, ITSELF, OWNER};
 use support::tables::{get_field, set_field, Table, Tables};
 
@@ -73,6 +76,123 @@ fn the_twelve_sets() {
         let answered = permission_set(&mut sample().image(), subject, role, item);
         assert_eq!(answered, accepted(set), "({subject}, {role}, {item})");
     }
+}
+
+/// Asker, role, item; then rule, group, set of the rule, of everyone, of the role, of operations.
+type Explained = ([u32; 3], [u32; 6]);
+
+#[test]
+fn the_twelve_explanations() {
+    let explained: [Explained; 12] = [
+        ([2, 0, 2], [OWNER_LINE, 0, 7, 1, 0, 91]),
+        ([2, 0, 3], [GROUP_LINE, 1, 3, 1, 0, 91]),
+        ([5, 0, 2], [OWN_LINE, 0, 0, 1, 0, 3]),
+        ([4, 0, 2], [OWN_LINE, 0, 8, 1, 0, 9]),
+        ([4, 7, 2], [OWN_LINE, 0, 8, 1, 3, 11]),
+        ([4, 0, 3], [OWNER_LINE, 0, 7, 1, 0, 9]),
+        ([4, 7, 3], [OWNER_LINE, 0, 7, 1, 0, 11]),
+        ([4, 9, 2], [OWN_LINE, 0, 8, 1, 0, 9]),
+        ([1, 0, 2], [NOTHING_FOUND, 0, 0, 1, 0, 127]),
+        ([3, 0, 2], [NOTHING_FOUND, 0, 0, 1, 0, 73]),
+        ([2, 0, 4], [NOTHING_FOUND, 0, 0, 0, 0, 91]),
+        ([0, 0, 4], [CUSTODIAN, 0, u32::MAX, 0, 0, u32::MAX]),
+    ];
+    for explained in explained {
+        assert_explains(&sample(), explained);
+    }
+}
+
+/// The custodian needs no line, so everyone's line is not for him.
+#[test]
+fn the_custodian_on_a_list_with_a_line_for_everyone() {
+    let custodians = [CUSTODIAN, 0, u32::MAX, 0, 0, u32::MAX];
+    assert_explains(&sample(), ([0, 0, 2], custodians));
+}
+
+#[test]
+fn an_owner_line_of_0_decides() {
+    let mut tables = sample();
+    tables.lines.rows[3] = [1, OWNER, 0, 0];
+    assert_explains(&tables, ([4, 0, 3], [OWNER_LINE, 0, 0, 1, 0, 9]));
+}
+
+/// He goes straight to the group search, past his own line.
+#[test]
+fn an_owner_without_an_owner_line() {
+    let mut tables = sample();
+    tables.lines.rows.remove(3);
+    assert_explains(&tables, ([4, 0, 3], [NOTHING_FOUND, 0, 0, 1, 0, 9]));
+    assert_explains(&tables, ([2, 0, 2], [GROUP_LINE, 1, 3, 1, 0, 91]));
+}
+
+/// Even if its line holds 0. The custodian's group is the highest.
+#[test]
+fn the_lowest_group_decides() {
+    let mut tables = sample();
+    tables.lines.rows[0] = [1, GROUP, 0, 64];
+    tables.lines.rows[1] = [1, GROUP, 1, 3];
+    tables.lines.rows[2] = [1, GROUP, 2, 0];
+    assert_explains(&tables, ([5, 0, 2], [GROUP_LINE, 2, 0, 1, 0, 3]));
+    assert_explains(&tables, ([2, 0, 3], [GROUP_LINE, 1, 3, 1, 0, 91]));
+    assert_explains(&tables, ([1, 0, 2], [GROUP_LINE, 0, 64, 1, 0, 127]));
+}
+
+/// Neither by the operation set nor by the grantor's own row. The owner line lets subject 2 discard
+/// item 2, and 2 grants this to 4, though neither may discard at all.
+#[test]
+fn the_role_part_is_not_cut() {
+    let mut tables = sample();
+    tables.grants.rows[0] = [4, 7, 2, 2, 4];
+    assert_explains(&tables, ([4, 7, 2], [OWN_LINE, 0, 8, 1, 4, 9]));
+}
+
+/// The role's part is explained, though he has everything without it.
+#[test]
+fn the_custodian_under_a_role() {
+    let mut tables = sample();
+    tables.grants.rows[0] = [0, 7, 2, 2, 3];
+    let on_item_2 = [CUSTODIAN, 0, u32::MAX, 0, 3, u32::MAX];
+    assert_explains(&tables, ([0, 7, 2], on_item_2));
+    let outside_the_domain = [CUSTODIAN, 0, u32::MAX, 0, 0, u32::MAX];
+    assert_explains(&tables, ([0, 7, 3], outside_the_domain));
+}
+
+/// His lines' part is all, even on an item without a list.
+#[test]
+fn a_role_granted_by_the_custodian() {
+    let mut tables = sample();
+    tables.grants.rows[0] = [5, 7, 0, 1, 66];
+    assert_explains(&tables, ([5, 7, 4], [NOTHING_FOUND, 0, 0, 0, 66, 67]));
+}
+
+fn assert_explains(tables: &Tables, (asked, explained): Explained) {
+    let [rule, group, rule_set, everyone_set, role_set, operations] = explained;
+    let explanation = Explanation {
+        number: 0,
+        rule,
+        group,
+        rule_set,
+        everyone_set,
+        role_set,
+        operations,
+    };
+    assert_answered(tables, asked, explanation);
+}
+
+fn assert_answered(tables: &Tables, [subject, role, item]: [u32; 3], explanation: Explanation) {
+    let call = Question::new(subject, role, item).call();
+    let outcome = compare(&mut tables.image(), &call, "no seed");
+    assert_eq!(outcome.explanation, Some(explanation), "{call:?}");
+}
+
+#[test]
+fn explanations_refused() {
+    let unknown_subject = Explanation::refused(10);
+    assert_answered(&sample(), [6, 0, 2], unknown_subject);
+    assert_answered(&sample(), [6, 0, 0], unknown_subject);
+    let unknown_item = Explanation::refused(12);
+    assert_answered(&sample(), [2, 0, 0], unknown_item);
+    assert_answered(&sample(), [2, 7, 5], unknown_item);
 }
 
 #[test]

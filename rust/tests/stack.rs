@@ -5,7 +5,7 @@ mod support;
 mod twin;
 mod yardstick;
 
-use dacm::{Item, Kind, Privileges, Refusal, Role, Subject, STACK_BYTES};
+use dacm::{Explanation, Item, Kind, Privileges, Refusal, Role, Rule, Subject, STACK_BYTES};
 use std::thread;
 use support::tables::{Table, Tables};
 
@@ -64,6 +64,12 @@ fn answers(mut image: Vec<u8>, deepest: Subject) -> [Result<u32, Refusal>; 4] {
     [set, editor, line, gone]
 }
 
+/// The explanation for the deepest subject, under no role.
+fn explanation(image: Vec<u8>, deepest: Subject) -> Explanation {
+    on_promised_stack(move || dacm::explain(&image, deepest, Role::NONE, Item(1)))
+        .expect("subject and item are in use")
+}
+
 #[test]
 fn no_group_line_at_all() {
     let tables = chain(vec![], vec![]);
@@ -74,6 +80,8 @@ fn no_group_line_at_all() {
         "the deepest chain that an image holds"
     );
     let image = tables.image();
+    let explanation = explanation(image.clone(), deepest);
+    assert_eq!(explanation.rule, Rule::NothingFound);
     let answers = on_promised_stack(move || answers(image, deepest));
     let refused = Err(Refusal::NotPermitted);
     assert_eq!(answers, [Ok(0), Err(Refusal::NoEditor), refused, refused]);
@@ -86,6 +94,9 @@ fn a_group_line_at_the_top() {
     tables.lines.spare = 1;
     let deepest = Subject(tables.subjects.used() as u32 - 1);
     let image = tables.image();
+    let explanation = explanation(image.clone(), deepest);
+    assert_eq!(explanation.rule, Rule::GroupLine(Subject::CUSTODIAN));
+    assert_eq!(explanation.rule_set, Privileges(EDIT_LIST | READ));
     let answers = on_promised_stack(move || answers(image, deepest));
     assert_eq!(answers, [Ok(EDIT_LIST | READ), Ok(1), Ok(0), Ok(0)]);
 }
@@ -99,9 +110,15 @@ fn under_a_role() {
     let mut tables = chain(grant(asker), vec![[1, ITSELF, grantor, READ]]);
     tables.items.rows[0][0] = grantor;
     let image = tables.image();
-    let set =
-        on_promised_stack(move || dacm::permission_set(&image, Subject(asker), Role(7), Item(1)));
+    let (set, explained) = on_promised_stack(move || {
+        let (asker, role, item) = (Subject(asker), Role(7), Item(1));
+        let set = dacm::permission_set(&image, asker, role, item);
+        (set, dacm::explain(&image, asker, role, item))
+    });
     assert_eq!(set, Ok(Privileges::NONE));
+    let explanation = explained.expect("subject and item are in use");
+    assert_eq!(explanation.rule, Rule::NothingFound);
+    assert_eq!(explanation.role_set, Privileges::NONE);
 }
 
 /// The header promises the same stack.

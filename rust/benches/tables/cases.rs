@@ -53,6 +53,7 @@ fn sample_case() -> Case {
         operations: vec![
             plain("check", Call::Check),
             plain("permission set, under a role", set_of(4, 7, 2)),
+            plain("explain, under a role", explanation_of(4, 7, 2)),
             plain("editor search, there is none", editor_of(1)),
             plain("set line, overwrites", overwriting(&tables)),
             plain("set line, inserts", inserting(&tables)),
@@ -62,11 +63,14 @@ fn sample_case() -> Case {
     }
 }
 
+/// On the item that is asked about, the receiver's role adds only to the operation set. The deputy's
+/// has a part there too.
 fn mixed_case() -> Case {
     let tables = images::mixed();
     let [receiver, role, ..] = middle(&tables.grants.rows);
     let list = list_in_the_middle(&tables);
     let item = item_under(&tables, list);
+    let [deputy, deputy_role] = role_that_counts(&tables, item);
     Case {
         image_name: "mixed",
         image: tables.image(),
@@ -74,6 +78,15 @@ fn mixed_case() -> Case {
             plain("check", Call::Check),
             looking_up("permission set", set_of(500, NO_ROLE, item)),
             looking_up("permission set, under a role", set_of(receiver, role, item)),
+            looking_up(
+                "permission set, the role counts",
+                set_of(deputy, deputy_role, item),
+            ),
+            looking_up("explain", explanation_of(500, NO_ROLE, item)),
+            looking_up(
+                "explain, the role counts",
+                explanation_of(deputy, deputy_role, item),
+            ),
             searching("editor search, the last subject", editor_of(list)),
             looking_up("set line, overwrites", overwriting(&tables)),
             looking_up("set line, inserts", inserting(&tables)),
@@ -97,6 +110,11 @@ fn chain_case() -> Case {
                 set_of(deepest / 2, NO_ROLE, 2),
             ),
             plain("permission set, the deepest", set_of(deepest, NO_ROLE, 2)),
+            plain(
+                "explain, half way down",
+                explanation_of(deepest / 2, NO_ROLE, 2),
+            ),
+            plain("explain, the deepest", explanation_of(deepest, NO_ROLE, 2)),
             plain("editor search, the last subject", editor_of(1)),
             plain("set line, overwrites", overwriting(&tables)),
             plain("set line, inserts", inserting(&tables)),
@@ -116,6 +134,7 @@ fn lines_case() -> Case {
         operations: vec![
             plain("check", Call::Check),
             looking_up("permission set", set_of(150, NO_ROLE, item)),
+            looking_up("explain", explanation_of(150, NO_ROLE, item)),
             searching("editor search, there is none", editor_of(list)),
             looking_up("set line, overwrites", overwriting(&tables)),
             looking_up("set line, inserts", inserting(&tables)),
@@ -154,6 +173,14 @@ fn searching(name: &'static str, call: Call) -> Operation {
 
 fn set_of(subject: u32, role: u32, item: u32) -> Call {
     Call::PermissionSet {
+        subject,
+        role,
+        item,
+    }
+}
+
+fn explanation_of(subject: u32, role: u32, item: u32) -> Call {
+    Call::Explain {
         subject,
         role,
         item,
@@ -222,6 +249,19 @@ fn item_under(tables: &Tables, list: u32) -> u32 {
         .find(|(_, [_, governing, flags])| *governing == list && *flags == 0)
         .map(|(number, _)| number)
         .expect("every list governs an item")
+}
+
+/// The receiver and the role of the first grant for which lines of the grantor are looked up too: its
+/// domain's tree has the item's owner, and its grantor is not the custodian.
+fn role_that_counts(tables: &Tables, item: u32) -> [u32; 2] {
+    let [owner, ..] = tables.items.rows[item as usize - 1];
+    tables
+        .grants
+        .rows
+        .iter()
+        .find(|[_, _, grantor, domain, _]| *grantor != CUSTODIAN && tables.in_tree(owner, *domain))
+        .map(|[receiver, role, ..]| [*receiver, *role])
+        .expect("some domain has the item's owner")
 }
 
 fn has_own_line(tables: &Tables, list: u32, subject: u32) -> bool {

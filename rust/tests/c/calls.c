@@ -75,6 +75,66 @@ static uint32_t set_of(dacm_subject subject, dacm_item item)
     return dacm_permission_set(image, LENGTH, subject, no_role, item).result;
 }
 
+static int same(dacm_explanation one, dacm_explanation other)
+{
+    return one.number == other.number && one.rule == other.rule && one.group == other.group
+        && one.rule_set == other.rule_set && one.everyone_set == other.everyone_set && one.role_set == other.role_set
+        && one.operations == other.operations;
+}
+
+static void explained(dacm_subject subject, dacm_role role, dacm_item item, dacm_explanation explanation)
+{
+    expect(same(dacm_explain(image, LENGTH, subject, role, item), explanation));
+    expect(dacm_permission_set(image, LENGTH, subject, role, item).result
+           == (explanation.operations & (explanation.rule_set | explanation.everyone_set | explanation.role_set)));
+    expect(unchanged());
+}
+
+/* A refused explanation has 0 in every field but the number. */
+static void unexplained(dacm_explanation answer, uint32_t number)
+{
+    dacm_explanation refusal = {.number = number};
+    expect(same(answer, refusal));
+    expect(unchanged());
+}
+
+/* A field that is not named is 0. */
+static void explain(void)
+{
+    fresh();
+    dacm_explanation custodians = {.rule = DACM_RULE_CUSTODIAN, .rule_set = DACM_ALL, .operations = DACM_ALL};
+    explained(custodian, no_role, document, custodians);
+    explained(custodian, no_role, unlisted, custodians);
+
+    dacm_explanation owners = {.rule = DACM_RULE_OWNER_LINE, .rule_set = 7, .everyone_set = 1, .operations = 91};
+    explained(second, no_role, document, owners);
+
+    dacm_explanation denied = {.rule = DACM_RULE_OWN_LINE, .rule_set = 0, .everyone_set = 1, .operations = 3};
+    explained(fifth, no_role, document, denied);
+
+    dacm_explanation under_role = {
+        .rule = DACM_RULE_OWN_LINE, .rule_set = 8, .everyone_set = 1, .role_set = 3, .operations = 11
+    };
+    explained(fourth, seventh, document, under_role);
+
+    dacm_explanation by_group = {
+        .rule = DACM_RULE_GROUP_LINE, .group = first.number, .rule_set = 3, .everyone_set = 1, .operations = 91
+    };
+    explained(second, no_role, list, by_group);
+
+    dacm_explanation not_found = {.rule = DACM_RULE_NOTHING_FOUND, .everyone_set = 1, .operations = 73};
+    explained(third, no_role, document, not_found);
+
+    dacm_explanation without_list = {.rule = DACM_RULE_NOTHING_FOUND, .operations = 91};
+    explained(second, no_role, unlisted, without_list);
+
+    unexplained(dacm_explain(image, 35, second, no_role, document), DACM_BAD_LENGTH);
+    unexplained(dacm_explain(image, LENGTH - 1, second, no_role, document), DACM_BAD_LAYOUT);
+    unexplained(dacm_explain(image, LENGTH, nobody, no_role, nothing), DACM_UNKNOWN_CALLER);
+    unexplained(dacm_explain(image, LENGTH, second, no_role, nothing), DACM_UNKNOWN_ITEM);
+    unexplained(dacm_explain(image, LENGTH, second, no_role, none), DACM_UNKNOWN_ITEM);
+}
+
 static void ask(void)
 {
     fresh();
@@ -175,6 +235,7 @@ static void change_items(void)
 int main(void)
 {
     ask();
+    explain();
     change_subjects_and_grants();
     change_lines();
     change_items();

@@ -1,5 +1,6 @@
 //! A call with its arguments, made on the library, on the twin or on the yardstick.
 
+use super::explanation::Explanation;
 use crate::{twin, yardstick};
 use dacm::{Flags, Item, Kind, Privileges, Refusal, Role, Subject};
 use std::ops::Range;
@@ -12,6 +13,7 @@ pub enum Call {
     Check,
     OperationSet { subject: u32, role: u32 },
     PermissionSet { subject: u32, role: u32, item: u32 },
+    Explain { subject: u32, role: u32, item: u32 },
     ListCount { list: u32 },
     LinesOf { list: u32 },
     FindEditor { list: u32 },
@@ -25,12 +27,14 @@ pub enum Call {
     HandOver { caller: u32, item: u32, owner: u32 },
 }
 
-/// What a call answered. Only the lines of a list have a slice of the image that is not empty.
+/// What a call answered. Only the lines of a list have a slice of the image that is not empty, and
+/// only explain has an explanation, also where it is refused.
 #[derive(Clone, Debug, PartialEq, Eq)]
 pub struct Outcome {
     pub number: u32,
     pub result: u32,
     pub slice: Range<usize>,
+    pub explanation: Option<Explanation>,
 }
 
 impl Outcome {
@@ -39,58 +43,97 @@ impl Outcome {
             number,
             result,
             slice: 0..0,
+            explanation: None,
         }
     }
 }
 
-/// Makes a call on an implementation in Rust. They are modules with the same functions, and have no
-/// type in common that a function could take.
+impl From<Explanation> for Outcome {
+    fn from(explanation: Explanation) -> Outcome {
+        Outcome {
+            explanation: Some(explanation),
+            ..Outcome::new(explanation.number, 0)
+        }
+    }
+}
+
+/// Makes outcomes of what an implementation in Rust answers. They are modules with the same
+/// functions and fields, and have no type in common that a function could take.
+macro_rules! outcomes_of {
+    ($module:ident) => {
+        impl From<$module::Answer> for Outcome {
+            fn from(answer: $module::Answer) -> Outcome {
+                Outcome::new(answer.number, answer.result)
+            }
+        }
+
+        impl From<$module::Explanation> for Outcome {
+            fn from(answer: $module::Explanation) -> Outcome {
+                let explanation = Explanation {
+                    number: answer.number,
+                    rule: answer.rule,
+                    group: answer.group,
+                    rule_set: answer.rule_set,
+                    everyone_set: answer.everyone_set,
+                    role_set: answer.role_set,
+                    operations: answer.operations,
+                };
+                explanation.into()
+            }
+        }
+    };
+}
+
+outcomes_of!(twin);
+outcomes_of!(yardstick);
+
+/// Makes a call on an implementation in Rust.
 #[rustfmt::skip]
 macro_rules! made_on {
     ($module:ident, $call:expr, $image:expr) => {{
-        let (call, image) = ($call, $image);
-        let answer = match *call {
-            Call::Check =>
-                $module::check(image),
-            Call::OperationSet { subject, role } =>
-                $module::operation_set(image, subject, role),
-            Call::PermissionSet { subject, role, item } =>
-                $module::permission_set(image, subject, role, item),
-            Call::ListCount { list } | Call::LinesOf { list } =>
-                $module::list_count(image, list),
-            Call::FindEditor { list } =>
-                $module::find_editor(image, list),
-            Call::DefineSubject { caller, role, parent, privileges } =>
-                $module::define_subject(image, caller, role, parent, privileges),
-            Call::SetGrant { caller, receiver, role, domain, privileges } =>
-                $module::set_grant(image, caller, receiver, role, domain, privileges),
-            Call::RemoveGrant { caller, receiver, role } =>
-                $module::remove_grant(image, caller, receiver, role),
-            Call::SetLine { caller, role, list, kind, subject, privileges } =>
-                $module::set_line(image, caller, role, list, kind, subject, privileges),
-            Call::RemoveLine { caller, role, list, kind, subject } =>
-                $module::remove_line(image, caller, role, list, kind, subject),
-            Call::CreateItem { caller, role, list, flags } =>
-                $module::create_item(image, caller, role, list, flags),
-            Call::Bind { caller, item, list } =>
-                $module::bind(image, caller, item, list),
-            Call::HandOver { caller, item, owner } =>
-                $module::hand_over(image, caller, item, owner),
-        };
+        let (call, image): (&Call, &mut [u8]) = ($call, $image);
         match *call {
+            Call::Check =>
+                $module::check(image).into(),
+            Call::OperationSet { subject, role } =>
+                $module::operation_set(image, subject, role).into(),
+            Call::PermissionSet { subject, role, item } =>
+                $module::permission_set(image, subject, role, item).into(),
+            Call::Explain { subject, role, item } =>
+                $module::explain(image, subject, role, item).into(),
+            Call::ListCount { list } =>
+                $module::list_count(image, list).into(),
             Call::LinesOf { list } =>
-                lines_at($module::list_start(image, list), answer.number, answer.result),
-            _ => Outcome::new(answer.number, answer.result),
+                lines_at($module::list_start(image, list), $module::list_count(image, list).into()),
+            Call::FindEditor { list } =>
+                $module::find_editor(image, list).into(),
+            Call::DefineSubject { caller, role, parent, privileges } =>
+                $module::define_subject(image, caller, role, parent, privileges).into(),
+            Call::SetGrant { caller, receiver, role, domain, privileges } =>
+                $module::set_grant(image, caller, receiver, role, domain, privileges).into(),
+            Call::RemoveGrant { caller, receiver, role } =>
+                $module::remove_grant(image, caller, receiver, role).into(),
+            Call::SetLine { caller, role, list, kind, subject, privileges } =>
+                $module::set_line(image, caller, role, list, kind, subject, privileges).into(),
+            Call::RemoveLine { caller, role, list, kind, subject } =>
+                $module::remove_line(image, caller, role, list, kind, subject).into(),
+            Call::CreateItem { caller, role, list, flags } =>
+                $module::create_item(image, caller, role, list, flags).into(),
+            Call::Bind { caller, item, list } =>
+                $module::bind(image, caller, item, list).into(),
+            Call::HandOver { caller, item, owner } =>
+                $module::hand_over(image, caller, item, owner).into(),
         }
     }};
 }
 
 impl Call {
-    pub const NAMES: [&'static str; 14] = [
+    pub const NAMES: [&'static str; 15] = [
         // Those that ask.
         "check",
         "operation_set",
         "permission_set",
+        "explain",
         "list_count",
         "lines_of",
         "find_editor",
@@ -108,7 +151,7 @@ impl Call {
     ];
 
     /// The first of the names above whose call writes the image.
-    pub const FIRST_WRITING: usize = 6;
+    pub const FIRST_WRITING: usize = 7;
 
     /// Which of the names above is the call's.
     fn index(&self) -> usize {
@@ -116,17 +159,18 @@ impl Call {
             Call::Check => 0,
             Call::OperationSet { .. } => 1,
             Call::PermissionSet { .. } => 2,
-            Call::ListCount { .. } => 3,
-            Call::LinesOf { .. } => 4,
-            Call::FindEditor { .. } => 5,
-            Call::DefineSubject { .. } => 6,
-            Call::SetGrant { .. } => 7,
-            Call::RemoveGrant { .. } => 8,
-            Call::SetLine { .. } => 9,
-            Call::RemoveLine { .. } => 10,
-            Call::CreateItem { .. } => 11,
-            Call::Bind { .. } => 12,
-            Call::HandOver { .. } => 13,
+            Call::Explain { .. } => 3,
+            Call::ListCount { .. } => 4,
+            Call::LinesOf { .. } => 5,
+            Call::FindEditor { .. } => 6,
+            Call::DefineSubject { .. } => 7,
+            Call::SetGrant { .. } => 8,
+            Call::RemoveGrant { .. } => 9,
+            Call::SetLine { .. } => 10,
+            Call::RemoveLine { .. } => 11,
+            Call::CreateItem { .. } => 12,
+            Call::Bind { .. } => 13,
+            Call::HandOver { .. } => 14,
         }
     }
 
@@ -148,6 +192,8 @@ impl Call {
                 with_result(dacm::operation_set(image, Subject(subject), Role(role)).map(|set| set.0)),
             Call::PermissionSet { subject, role, item } =>
                 with_result(dacm::permission_set(image, Subject(subject), Role(role), Item(item)).map(|set| set.0)),
+            Call::Explain { subject, role, item } =>
+                Explanation::from(dacm::explain(image, Subject(subject), Role(role), Item(item))).into(),
             Call::ListCount { list } =>
                 with_result(dacm::list_count(image, Item(list))),
             Call::LinesOf { list } =>
@@ -232,9 +278,10 @@ fn lines_of_library(image: &[u8], list: u32) -> Outcome {
     }
 }
 
-fn lines_at(start: usize, number: u32, count: u32) -> Outcome {
+/// The lines that begin at an offset, as many as were counted.
+fn lines_at(start: usize, counted: Outcome) -> Outcome {
     Outcome {
-        slice: start..start + 16 * count as usize,
-        ..Outcome::new(number, 0)
+        slice: start..start + 16 * counted.result as usize,
+        ..Outcome::new(counted.number, 0)
     }
 }

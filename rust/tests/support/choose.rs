@@ -33,6 +33,7 @@ impl Chooser<'_> {
             "check" => Call::Check,
             "operation_set" => self.operation_set(),
             "permission_set" => self.permission_set(),
+            "explain" => self.explain(),
             "list_count" => Call::ListCount { list: self.list() },
             "lines_of" => Call::LinesOf { list: self.list() },
             "find_editor" => Call::FindEditor { list: self.list() },
@@ -57,6 +58,16 @@ impl Chooser<'_> {
         let (subject, role) = self.asker();
         let item = self.item();
         Call::PermissionSet {
+            subject,
+            role,
+            item,
+        }
+    }
+
+    fn explain(&mut self) -> Call {
+        let (subject, role) = self.asker();
+        let item = self.item();
+        Call::Explain {
             subject,
             role,
             item,

@@ -2,11 +2,12 @@
 //! leaves compared.
 
 use super::call::{Call, Outcome};
+use super::explanation::Question;
 use crate::twin;
 
 /// Makes the call on the library, on the twin and on the yardstick. All must answer the same and
 /// leave the same bytes. If the call is refused or only asks, these must be the bytes from before.
-/// Afterwards the image is as the call left it.
+/// An explanation must also hold of the image. Afterwards the image is as the call left it.
 pub fn compare(image: &mut [u8], call: &Call, seed: &str) -> Outcome {
     compare_made_by(image, call, seed, |image| call.on_library(image))
 }
@@ -36,6 +37,9 @@ pub fn compare_made_by(
     assert_same_bytes(image, &after, call, seed, "the yardstick leaves");
     if ours.number != 0 || call.only_asks() {
         assert_same_bytes(image, &before, call, seed, "there was");
+    }
+    if let (Some(question), Some(explanation)) = (Question::of(call), &ours.explanation) {
+        question.assert_explained(&before, explanation, seed);
     }
     ours
 }

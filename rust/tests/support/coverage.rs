@@ -10,6 +10,7 @@ const QUESTIONS: [&[u32]; Call::NAMES.len()] = [
     /* check          */ &[],
     /* operation_set  */ &[10],
     /* permission_set */ &[10, 12],
+    /* explain        */ &[10, 12],
     /* list_count     */ &[13],
     /* lines_of       */ &[13],
     /* find_editor    */ &[13, 20],

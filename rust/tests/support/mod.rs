@@ -11,6 +11,8 @@ pub mod choose;
 pub mod compare;
 pub mod coverage;
 pub mod damage;
+pub mod examples;
+pub mod explanation;
 pub mod libraries;
 pub mod program;
 pub mod random;

@@ -81,6 +81,18 @@ impl Tables {
             .collect()
     }
 
+    /// The list of an item in use.
+    pub fn list_of(&self, item: u32) -> u32 {
+        let [_, list, _] = self.items.rows[item as usize - 1];
+        list
+    }
+
+    /// The privileges of a line, if there is one.
+    pub fn line(&self, list: u32, kind: u32, subject: u32) -> Option<u32> {
+        let is_it = |row: &&[u32; 4]| row[..3] == [list, kind, subject];
+        self.lines.rows.iter().find(is_it).map(|row| row[3])
+    }
+
     /// Is the subject the head or below it?
     pub fn in_tree(&self, subject: u32, head: u32) -> bool {
         let mut reached = subject;

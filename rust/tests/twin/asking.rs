@@ -3,7 +3,7 @@
 use super::image::Image;
 use super::permission;
 use super::table::LINES;
-use super::{answer, ask, Answer, Refused};
+use super::{answer, ask, Answer, Explanation, Refused};
 use std::ops::Range;
 
 pub fn check(image: &[u8]) -> Answer {
@@ -28,6 +28,19 @@ pub fn permission_set(image: &[u8], subject: u32, role: u32, item: u32) -> Answe
         ask(10, image.has_subject(subject))?;
         let item = image.item(item).ok_or(Refused(12))?;
         Ok(permission::permission_set(&image, subject, role, item))
+    })
+}
+
+pub fn explain(image: &[u8], subject: u32, role: u32, item: u32) -> Explanation {
+    let explained = || {
+        let image = Image::open(image)?;
+        ask(10, image.has_subject(subject))?;
+        let item = image.item(item).ok_or(Refused(12))?;
+        Ok(permission::explain(&image, subject, role, item))
+    };
+    explained().unwrap_or_else(|Refused(number)| Explanation {
+        number,
+        ..Explanation::default()
     })
 }
 

@@ -20,7 +20,7 @@ mod table;
 
 #[allow(unused_imports)]
 pub use asking::{
-    check, find_editor, is_editor, list_count, list_start, operation_set, permission_set,
+    check, explain, find_editor, is_editor, list_count, list_start, operation_set, permission_set,
 };
 #[allow(unused_imports)]
 pub use changing::{
@@ -34,6 +34,19 @@ pub use report::report;
 pub struct Answer {
     pub number: u32,
     pub result: u32,
+}
+
+/// What explain answers: number 0 and the explanation, or the refusal and 0 in
+/// every other field.
+#[derive(Clone, Copy, Debug, Default, PartialEq, Eq)]
+pub struct Explanation {
+    pub number: u32,
+    pub rule: u32,
+    pub group: u32,
+    pub rule_set: u32,
+    pub everyone_set: u32,
+    pub role_set: u32,
+    pub operations: u32,
 }
 
 /// The refusal: the number of the first question answered no.

@@ -5,7 +5,7 @@ use super::opening::open;
 use super::permission;
 use super::rows::LineRow;
 use super::writing::LINES;
-use super::{Answer, Asked, Question};
+use super::{Answer, Asked, Explanation, Question};
 
 pub fn check(image: &[u8]) -> Answer {
     Answer::to(|| open(image).map(|_| 0))
@@ -26,6 +26,15 @@ pub fn permission_set(image: &[u8], subject: u32, role: u32, item: u32) -> Answe
         Question::Caller.ask(tables.has_subject(subject))?;
         let item = tables.item(item).ok_or(Question::Item)?;
         Ok(permission::permission_set(&tables, subject, role, item))
+    })
+}
+
+pub fn explain(image: &[u8], subject: u32, role: u32, item: u32) -> Explanation {
+    Explanation::to(|| {
+        let tables = open(image)?;
+        Question::Caller.ask(tables.has_subject(subject))?;
+        let item = tables.item(item).ok_or(Question::Item)?;
+        Ok(permission::explain(&tables, subject, role, item))
     })
 }
 

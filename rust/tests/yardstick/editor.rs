@@ -67,7 +67,7 @@ impl Search<'_> {
         let mut given_below = Vec::with_capacity(self.tables.subjects.used.len());
         for subject in 0..self.tables.subject_count() {
             let above = subject != CUSTODIAN && given_below[tree.parent(subject) as usize];
-            let by_groups = || self.list.direct_line(subject, self.owner).is_none();
+            let by_groups = || self.list.by_direct_line(subject, self.owner).is_none();
             if above && self.is_able(subject) && by_groups() {
                 return Some(subject);
             }

@@ -5,6 +5,46 @@ use super::rows::{
 };
 use super::tree::Tree;
 
+/// The rules behind the lines' part, by their numbers.
+#[derive(Clone, Copy)]
+pub enum Rule {
+    Custodian = 1,
+    OwnerLine = 2,
+    OwnLine = 3,
+    GroupLine = 4,
+    NothingFound = 5,
+}
+
+/// The rule that decides the lines' part, and the privileges that it gives.
+#[derive(Clone, Copy)]
+pub struct Decision {
+    pub rule: Rule,
+    /// The subject whose group line decides, and 0 where another rule does.
+    pub group: u32,
+    pub privileges: u32,
+}
+
+impl Decision {
+    /// By a rule that names no group.
+    #[inline]
+    fn by(rule: Rule, privileges: u32) -> Decision {
+        Decision {
+            rule,
+            group: 0,
+            privileges,
+        }
+    }
+
+    #[inline]
+    fn by_group(line: Line) -> Decision {
+        Decision {
+            rule: Rule::GroupLine,
+            group: line.subject,
+            privileges: line.privileges,
+        }
+    }
+}
+
 #[derive(Clone, Copy)]
 pub struct List<'a> {
     pub number: u32,
@@ -48,32 +88,52 @@ impl<'a> List<'a> {
 
     /// The lines' part for a subject, on an item that has this list and this owner.
     pub fn part(&self, tree: Tree, subject: u32, owner: u32) -> u32 {
-        if subject == CUSTODIAN {
-            return ALL;
-        }
-        let direct = self.direct_line(subject, owner);
-        let found = direct.or_else(|| self.group_line(tree, subject));
-        found.unwrap_or(0) | self.everyone.unwrap_or(0)
+        let decision = self.decision(tree, subject, owner);
+        decision.privileges | self.everyone_set(subject)
     }
 
-    /// The line that counts before those of the groups: the owner line for the owner, and for others
+    /// What the line for everyone adds to the lines' part. The custodian has all without it.
+    pub fn everyone_set(&self, subject: u32) -> u32 {
+        match subject {
+            CUSTODIAN => 0,
+            _ => self.everyone.unwrap_or(0),
+        }
+    }
+
+    /// What decides the lines' part, before the line for everyone is added. Inlined, so that the rule and
+    /// the group cost nothing where only the privileges are needed.
+    #[inline]
+    pub fn decision(&self, tree: Tree, subject: u32, owner: u32) -> Decision {
+        if subject == CUSTODIAN {
+            return Decision::by(Rule::Custodian, ALL);
+        }
+        if let Some(decision) = self.by_direct_line(subject, owner) {
+            return decision;
+        }
+        let by_group = self.by_group_line(tree, subject);
+        by_group.unwrap_or(Decision::by(Rule::NothingFound, 0))
+    }
+
+    /// By the line that counts before those of the groups: the owner line for the owner, and for others
     /// their own line.
-    pub fn direct_line(&self, subject: u32, owner: u32) -> Option<u32> {
+    #[inline]
+    pub fn by_direct_line(&self, subject: u32, owner: u32) -> Option<Decision> {
         if subject == owner {
-            return self.owner;
+            let privileges = self.owner?;
+            return Some(Decision::by(Rule::OwnerLine, privileges));
         }
         let key = line_key(self.number, ITSELF, subject);
         let found = self
             .lines
             .binary_search_by_key(&key, |row| Line::of(row).key());
-        found
-            .ok()
-            .map(|index| Line::of(&self.lines[index]).privileges)
+        let line = Line::of(&self.lines[found.ok()?]);
+        Some(Decision::by(Rule::OwnLine, line.privileges))
     }
 
-    /// The group line of the nearest subject above that has one. Going up, numbers fall: so one climb
+    /// By the group line of the nearest subject above that has one. Going up, numbers fall: so one climb
     /// passes the group lines once, from that of the parent down to the first.
-    fn group_line(&self, tree: Tree, subject: u32) -> Option<u32> {
+    #[inline]
+    fn by_group_line(&self, tree: Tree, subject: u32) -> Option<Decision> {
         let mut reached = tree.parent(subject);
         let parents = line_key(self.number, GROUP, reached);
         let end = self
@@ -86,7 +146,7 @@ impl<'a> List<'a> {
             }
             reached = tree.climb(reached, line.subject);
             if reached == line.subject {
-                return Some(line.privileges);
+                return Some(Decision::by_group(line));
             }
         }
         None

@@ -23,7 +23,9 @@ mod tree;
 mod writing;
 
 #[allow(unused_imports)]
-pub use asking::{check, find_editor, list_count, list_start, operation_set, permission_set};
+pub use asking::{
+    check, explain, find_editor, list_count, list_start, operation_set, permission_set,
+};
 #[allow(unused_imports)]
 pub use changing::{
     bind, create_item, define_subject, hand_over, remove_grant, remove_line, set_grant, set_line,
@@ -38,6 +40,21 @@ pub struct Answer {
     pub result: u32,
 }
 
+/// What is behind a permission set: number 0, the rule that decided the lines' part, and the sets that
+/// the permission set is put together from. Or the number of a question, and 0 in every other field.
+#[derive(Clone, Copy, Debug, Default, PartialEq, Eq)]
+pub struct Explanation {
+    pub number: u32,
+    pub rule: u32,
+    /// The subject whose group line decided. The custodian's can decide too: then this is 0, as it is
+    /// where another rule decided.
+    pub group: u32,
+    pub rule_set: u32,
+    pub everyone_set: u32,
+    pub role_set: u32,
+    pub operations: u32,
+}
+
 /// A call's result, or the first question that is answered no.
 type Asked<T> = Result<T, Question>;
 
@@ -50,6 +67,20 @@ impl Answer {
                 result: 0,
             },
         }
+    }
+}
+
+impl Explanation {
+    fn to(call: impl FnOnce() -> Asked<Explanation>) -> Explanation {
+        call().unwrap_or_else(|question| Explanation {
+            number: question as u32,
+            ..Explanation::default()
+        })
+    }
+
+    #[inline]
+    fn permission_set(&self) -> u32 {
+        self.operations & (self.rule_set | self.everyone_set | self.role_set)
     }
 }
 

@@ -97,6 +97,7 @@ impl<'a> Tables<'a> {
     }
 
     /// An item's list. List 0 has no lines.
+    #[inline]
     pub fn list_of(&self, item: Item) -> List<'a> {
         let lines = self.lines.used;
         let end = lines.partition_point(|row| Line::of(row).list <= item.list);
@@ -117,6 +118,7 @@ impl<'a> Tables<'a> {
     }
 
     /// The grant under a claimed role, if the role is granted.
+    #[inline]
     pub fn grant(&self, subject: u32, role: u32) -> Option<Grant> {
         if role == NO_ROLE {
             return None;

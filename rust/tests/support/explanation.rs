@@ -1,0 +1,158 @@
+//! What explain answers, as plain numbers, and what must hold of it whatever an implementation says.
+
+use super::call::Call;
+use super::sample::{EVERYONE, GROUP, ITSELF, OWNER};
+use super::tables::Tables;
+use crate::twin;
+use dacm::{Item, Refusal, Role, Rule, Subject};
+
+/// The numbers of the rules.
+pub const CUSTODIAN: u32 = 1;
+pub const OWNER_LINE: u32 = 2;
+pub const OWN_LINE: u32 = 3;
+pub const GROUP_LINE: u32 = 4;
+pub const NOTHING_FOUND: u32 = 5;
+
+/// As the header has it.
+#[repr(C)]
+#[derive(Clone, Copy, Debug, Default, PartialEq, Eq)]
+pub struct Explanation {
+    pub number: u32,
+    pub rule: u32,
+    pub group: u32,
+    pub rule_set: u32,
+    pub everyone_set: u32,
+    pub role_set: u32,
+    pub operations: u32,
+}
+
+impl Explanation {
+    pub fn refused(number: u32) -> Explanation {
+        Explanation {
+            number,
+            ..Explanation::default()
+        }
+    }
+}
+
+/// What the crate answers.
+impl From<Result<dacm::Explanation, Refusal>> for Explanation {
+    fn from(answer: Result<dacm::Explanation, Refusal>) -> Explanation {
+        match answer {
+            Ok(explanation) => Explanation {
+                number: 0,
+                rule: explanation.rule.number(),
+                group: group(explanation.rule),
+                rule_set: explanation.rule_set.0,
+                everyone_set: explanation.everyone_set.0,
+                role_set: explanation.role_set.0,
+                operations: explanation.operations.0,
+            },
+            Err(refusal) => Explanation::refused(refusal.number()),
+        }
+    }
+}
+
+fn group(rule: Rule) -> u32 {
+    match rule {
+        Rule::GroupLine(Subject(number)) => number,
+        _ => 0,
+    }
+}
+
+/// The arguments of the call.
+#[derive(Clone, Copy, Debug)]
+pub struct Question {
+    pub subject: u32,
+    pub role: u32,
+    pub item: u32,
+}
+
+#[rustfmt::skip] // the arguments in one line
+impl Question {
+    pub fn new(subject: u32, role: u32, item: u32) -> Question {
+        Question { subject, role, item }
+    }
+
+    pub fn of(call: &Call) -> Option<Question> {
+        match *call {
+            Call::Explain { subject, role, item } => Some(Question::new(subject, role, item)),
+            _ => None,
+        }
+    }
+
+    pub fn call(self) -> Call {
+        let Question { subject, role, item } = self;
+        Call::Explain { subject, role, item }
+    }
+}
+
+impl Question {
+    /// The function of the header answers the same as the crate, and unless the question is refused,
+    /// the explanation holds of the image.
+    pub fn assert_explained(self, image: &[u8], explanation: &Explanation, seed: &str) {
+        let case = format!("{seed}: {self:?} is answered {explanation:?}");
+        assert_eq!(self.ask_in_c(image), *explanation, "{case}, otherwise in C");
+        if explanation.number == 0 {
+            self.assert_put_together(image, explanation, &case);
+            self.assert_lines_are_there(&Tables::read(image), explanation, &case);
+        }
+    }
+
+    /// Every field, also those of a refused call, which the crate does not show.
+    fn ask_in_c(self, image: &[u8]) -> Explanation {
+        extern "C" {
+            fn dacm_explain(
+                image: *const u8,
+                length: usize,
+                subject: Subject,
+                role: Role,
+                item: Item,
+            ) -> Explanation;
+        }
+        let (subject, role, item) = (Subject(self.subject), Role(self.role), Item(self.item));
+        // SAFETY: pointer and length are those of one slice.
+        unsafe { dacm_explain(image.as_ptr(), image.len(), subject, role, item) }
+    }
+
+    /// Put together by the paper's rules, the sets are the permission set.
+    fn assert_put_together(self, image: &[u8], explanation: &Explanation, case: &str) {
+        let objects = explanation.rule_set | explanation.everyone_set | explanation.role_set;
+        let set = twin::permission_set(image, self.subject, self.role, self.item).result;
+        assert_eq!(explanation.operations & objects, set, "{case}");
+    }
+
+    /// The line that is said to have decided is among the rows, with that set. Where no line
+    /// decided, the rule has its set by itself.
+    fn assert_lines_are_there(self, tables: &Tables, explanation: &Explanation, case: &str) {
+        let Explanation {
+            rule,
+            group,
+            rule_set,
+            everyone_set,
+            ..
+        } = *explanation;
+        match rule {
+            CUSTODIAN => assert_eq!(
+                [self.subject, rule_set, everyone_set],
+                [0, u32::MAX, 0],
+                "{case}"
+            ),
+            OWNER_LINE => self.assert_line(tables, OWNER, 0, rule_set, case),
+            OWN_LINE => self.assert_line(tables, ITSELF, self.subject, rule_set, case),
+            GROUP_LINE => self.assert_line(tables, GROUP, group, rule_set, case),
+            NOTHING_FOUND => assert_eq!(rule_set, 0, "{case}"),
+            _ => panic!("{case}: there is no rule {rule}"),
+        }
+        assert!(rule == GROUP_LINE || group == 0, "{case}: group {group}");
+        if everyone_set != 0 {
+            self.assert_line(tables, EVERYONE, 0, everyone_set, case);
+        }
+    }
+
+    fn assert_line(self, tables: &Tables, kind: u32, subject: u32, privileges: u32, case: &str) {
+        let row = [tables.list_of(self.item), kind, subject, privileges];
+        let is_there = tables.lines.rows.contains(&row);
+        assert!(is_there, "{case}: there is no line {row:?}");
+    }
+}
