@@ -24,5 +24,7 @@ pub mod Asks
 -- law for each way in which the code returns.
 pub mod Kept
 pub mod Acts
--- Then explanations, which say what decided.
+-- Then explanations, which say what decided: which lines stand in the table, and what the group search meets.
+pub mod Standing
+pub mod Nearest
 pub mod Reasons

@@ -7,15 +7,15 @@ use mathlib.Core.List.{List, [], _∷_, _++_}
 use mathlib.Core.Logic.{_⊎_, inl, inr, _≢_}
 use mathlib.Core.Option.{Option, none, some, Option·none-ne-some}
 use mathlib.Core.Path.{_≡_, refl, sym, ap, _∙_}
-use Prim.Native.Nat.{ℕ, suc, _<_, _≤_}
+use Prim.Native.Nat.{ℕ, zero, suc, _<_, _≤_}
 use native.Mathlib.Nat.{suc-le-suc-iff}
 use native.Mathlib.Omega.{arith}
 use borrow.Author.Tests.{lt-ltb, le-ltb, eq-eqb, ne-eqb}
 use lib.Dec.{T, ltb, ltb→lt, leb·suc-suc}
-use lib.ListN.{length, getD, take, drop, length-append, length-take, length-drop}
+use lib.ListN.{length, getD, getElem?, take, drop, length-append, length-take, length-drop}
 use Rattle.model.specs.Lists.{All, select, isThere}
 use Rattle.model.specs.Sorted.{before, same, find, insertionIndex, put, cut, ascending}
-use Rattle.laws.specs.Tests.{T-true, true-T, and-i, and-l, and-r, lt-eq-gt, All-map}
+use Rattle.laws.specs.Tests.{T-true, true-T, and-i, and-l, and-r, two, lt-eq-gt, All-map, All-index}
 
 -- The order of keys.
 
@@ -246,6 +246,44 @@ module _ {A : Type 0} (key : A → List ℕ) where
         | lower e f g ↦ rw (e, g) (find-plain k xs (ascending-tail x xs t))
         | equal e f g ↦ rw (f, g)
         | higher e f g ↦ rw (f, g) (sym (plain-above k xs (above-lower k (key x) xs e (ascending-above x xs t))))
+      ]
+
+  -- What a plain search finds is a row with the key. If it finds none, no row has it.
+  pub plain-row : (k : List ℕ) (xs : List A) (r : A) → plain k xs ≡ some r → ((n : ℕ) × (getElem? xs n ≡ some r)) × (key r ≡ k)
+  plain-row k [] r e = absurd (Option·none-ne-some r e)
+  plain-row k (x ∷ xs) r e =
+      elim (order (key x) k) [
+        | lower a b c ↦ let rest = plain-row k xs r (rw c at e) in ((suc (rest .0 .0), rest .0 .1), rest .1)
+        | equal a b c ↦ ((0, rw c at e), cc (rw c at e))
+        | higher a b c ↦ let rest = plain-row k xs r (rw c at e) in ((suc (rest .0 .0), rest .0 .1), rest .1)
+      ]
+
+  pub plain-none : (k : List ℕ) (xs : List A) (n : ℕ) (r : A) → plain k xs ≡ none → getElem? xs n ≡ some r → key r ≢ k
+  plain-none k [] n r e at h = Option·none-ne-some r at
+  plain-none k (x ∷ xs) zero r e at h =
+      let first : key x ≡ k = cc in
+      let found : some x ≡ none = rw (first, same-self k) at e in
+      Option·none-ne-some x (sym found)
+  plain-none k (x ∷ xs) (suc n) r e at h =
+      elim (two (same (key x) k)) [
+        | inl hit ↦ Option·none-ne-some x (sym (rw hit at e))
+        | inr miss ↦ plain-none k xs n r (rw miss at e) at h
+      ]
+
+  -- in an ascending table a row is the only one with its key
+  pub plain-at : (xs : List A) (n : ℕ) (r : A)
+      → T (ascending key xs)
+      → getElem? xs n ≡ some r
+      → plain (key r) xs ≡ some r
+  plain-at [] n r up at = absurd (Option·none-ne-some r at)
+  plain-at (x ∷ xs) zero r up at = let is : x ≡ r = cc in rw (is, same-self (key r))
+  plain-at (x ∷ xs) (suc n) r up at =
+      let higher-key : before (key x) (key r) ≡ true =
+      All-index (λ y. before (key x) (key y) ≡ true) xs n r (ascending-above x xs up) at in
+      elim (order (key x) (key r)) [
+        | lower a b c ↦ rw c (plain-at xs n r (ascending-tail x xs up) at)
+        | equal a b c ↦ absurd (false≢true (sym b ∙ higher-key))
+        | higher a b c ↦ absurd (false≢true (sym b ∙ higher-key))
       ]
 
   -- The insertion index. It is the number of rows with a lower key, and a row that is found is the one at this index.

@@ -2,13 +2,14 @@
 use mathlib.Core.Bool.{Bool, true, false, _&&_, _||_, not, and-true}
 use mathlib.Core.List.{List, [], _∷_, _++_}
 use mathlib.Core.Logic.{_⊎_, _≢_}
+use mathlib.Core.Option.{some, Option·none-ne-some}
 use mathlib.Core.Path.{_≡_, refl, sym, _∙_}
 use Prim.Native.Nat.{ℕ, zero, suc, _<_, _≤_}
 use native.Mathlib.Nat.{le-of-suc-le-suc, not-suc-le-zero}
 use native.Mathlib.Omega.{arith}
 use borrow.Author.Tests.{ltb-true, ltb-false, leb-true, leb-false, eqb-true, eqb-false, not-true, not-false}
 use lib.Dec.{T, eqb, ltb, leb}
-use lib.ListN.{length, getD, set}
+use lib.ListN.{length, getD, getElem?, set}
 use Rattle.model.specs.Lists.{allOf, every, everyNumbered, All}
 
 -- two facts as one
@@ -212,3 +213,9 @@ module _ {A : Type 0} where
     All-at [] d a k h = absurd (not-suc-le-zero h)
     All-at (x ∷ xs) d a zero h = a .0
     All-at (x ∷ xs) d a (suc k) h = All-at xs d (a .1) k (le-of-suc-le-suc h)
+
+    -- the same of a row that is looked up by its index
+    pub All-index : (xs : List A) (n : ℕ) (r : A) → All P xs → getElem? xs n ≡ some r → P r
+    All-index [] n r all at = absurd (Option·none-ne-some r at)
+    All-index (x ∷ xs) zero r all at = let is : x ≡ r = cc in rw is at (all .0)
+    All-index (x ∷ xs) (suc n) r all at = All-index xs n r (all .1) at

@@ -1,21 +1,21 @@
 -- Laws of climbing, for any step `up`: being in a tree, and the group search. A climb from s gives the same for every number of
 -- allowed steps that is at least s. So both have an equation that does not count steps. And both use `up` only at s and at
 -- lower numbers.
-use mathlib.Core.Bool.{false, _&&_, _||_, cond, or-false}
+use mathlib.Core.Bool.{false, _&&_, _||_, not, cond, or-false}
 use mathlib.Core.List.{List}
-use mathlib.Core.Logic.{inl, inr}
+use mathlib.Core.Logic.{_⊎_, inl, inr}
 use mathlib.Core.Option.{none}
 use mathlib.Core.Path.{_≡_, refl, sym, _∙_}
 use Prim.Native.Nat.{ℕ, zero, suc, _<_, _≤_}
 use native.Mathlib.Omega.{arith}
 use borrow.Author.Tests.{ltb-true, le-ltb, ne-eqb}
-use lib.Dec.{eqb, ltb}
+use lib.Dec.{T, eqb, ltb, eqb→eq, eqb-refl, ltb→lt, lt→ltb, T-not, not-T}
 use Rattle.model.specs.declared.LineRow.{LineRow}
 use Rattle.model.specs.Lists.{orElse}
-use Rattle.model.specs.Tree.{climbs, inTree}
+use Rattle.model.specs.Tree.{climbs, inTree, below}
 use Rattle.model.specs.Permission.{lineIn, groupWithin, groupLine}
 use Rattle.model.specs.Image.{groupKind}
-use Rattle.laws.specs.Tests.{two}
+use Rattle.laws.specs.Tests.{and-i, and-l, and-r, or-l, or-r, or-cases, two, le-or-lt, eq-or-ne}
 
 module _ (up : ℕ → ℕ) where
   -- The tree of h.
@@ -51,6 +51,39 @@ module _ (up : ℕ → ℕ) where
   pub tree-below : (h s : ℕ) → s < h → inTree up h s ≡ false
   unfolding inTree
   tree-below h s l = climbs-below h s s l
+
+  -- Who is below whom. One step up from s is the parent; whoever else is above s is above the parent.
+
+  pub tree-low : (h s : ℕ) → T (inTree up h s) → h ≤ s
+  tree-low h s u = elim (le-or-lt h s) [ inl le ↦ le | inr lt ↦ absurd (rw (tree-below h s lt) at u) ]
+
+  pub below-up : (h s : ℕ) → T (below up h s) → (up s < s) × T (inTree up h (up s))
+  below-up h s b =
+      let in-tree : T (eqb s h || (ltb (up s) s && inTree up h (up s))) =
+      rw (tree-up h s) at (and-l (inTree up h s) (not (eqb s h)) b) in
+      elim (or-cases (eqb s h) (ltb (up s) s && inTree up h (up s)) in-tree) [
+        | inl same ↦ absurd (T-not (eqb s h) (and-r (inTree up h s) (not (eqb s h)) b) same)
+        | inr above ↦
+            (ltb→lt (up s) s (and-l (ltb (up s) s) (inTree up h (up s)) above), and-r (ltb (up s) s) (inTree up h (up s)) above)
+      ]
+
+  pub up-below : (h s : ℕ) → up s < s → T (inTree up h (up s)) → T (below up h s)
+  up-below h s low u =
+      and-i (inTree up h s) (not (eqb s h))
+      (rw (tree-up h s)
+      (or-r (eqb s h) (ltb (up s) s && inTree up h (up s))
+      (and-i (ltb (up s) s) (inTree up h (up s)) (lt→ltb (up s) s low) u)))
+      (not-T (eqb s h) (λ same. omega (arith, eqb→eq s h same, tree-low h (up s) u)))
+
+  pub parent-or-above : (h s : ℕ) → T (inTree up h s) → (s ≡ h) ⊎ T (below up h s)
+  parent-or-above h s u =
+      elim (eq-or-ne s h) [
+        | inl same ↦ inl same
+        | inr other ↦ inr (and-i (inTree up h s) (not (eqb s h)) u (not-T (eqb s h) (λ same. other (eqb→eq s h same))))
+      ]
+
+  pub own-tree : (s : ℕ) → T (inTree up s s)
+  own-tree s = rw (tree-up s s) (or-l (eqb s s) (ltb (up s) s && inTree up s (up s)) (eqb-refl s))
 
   -- The group search.
 

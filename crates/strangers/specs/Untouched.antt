@@ -15,7 +15,8 @@ use Rattle.model.specs.Tree.{inTree}
 use Rattle.model.specs.WhoAndWhat.{editList, has, _∩_}
 use Rattle.model.specs.Image.{Tables, itselfKind, ownerKind, everyoneKind, grantKey, grantRules}
 use Rattle.model.specs.Image.{subjectIn, parentIn, privilegesIn, subjectUsed, itemIn, itemUsed}
-use Rattle.model.specs.Permission.{lineIn, groupRule, ownRule, ownerRule, decidingRule, everyoneSet, partOn, linesPart, grantOf, lentOperations, lentPart}
+use Rattle.model.specs.Permission.{lineIn, groupRule, ownRule, ownerRule, decidingRule, everyoneSet, partOn}
+use Rattle.model.specs.Permission.{linesPart, grantOf, lentOperations, lentPart}
 use Rattle.model.specs.Permission.{operationUnder, objectUnder, permissionUnder, permissionSet}
 use Rattle.laws.specs.Tests.{and-l, and-r, or-cases, All-map, All-both, All-self}
 use Rattle.laws.specs.Sorted.{IfSome, All-find}
