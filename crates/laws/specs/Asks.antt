@@ -35,8 +35,8 @@ module _ (img : List ℕ) (o : Opened) (is : o ≡ opened img) (qs : Tables → 
       let with = opened-with img o is lay case in
       rw (with .1) (first-right (imageQuestions img) (qs (tables img)) (check img) tt refl (firstNo (qs (tables img))) (with .0) refl)
 
-  -- The call says by its refusal n and its result x, which depends on the tables, what it answers: `refused n`, or x where n
-  -- is 0.
+  -- What the call answers is made by `say` of its refusal and of its result v, which depends on the tables. With a refusal n
+  -- it is `refused n`, whatever the result.
   module _ {A B : Type 0} (say : ℕ → A → B) (refused : ℕ → B)
       (says-refused : (n : ℕ) (x : A) → eqb n 0 ≡ false → refused n ≡ say n x) (v : Tables → A) where
     abbrev answers : B
@@ -48,7 +48,7 @@ module _ (img : List ℕ) (o : Opened) (is : o ≡ opened img) (qs : Tables → 
         ∙ ap (λ (k : ℕ). say k (v (tables img))) (number-image n case)
 
     module _ (lay : Layout) (case : o ≡ With lay) where
-      pub answers-own : answers ≡ say (firstNo (qs (tablesBy lay img))) (v (tablesBy lay img))
+      answers-own : answers ≡ say (firstNo (qs (tablesBy lay img))) (v (tablesBy lay img))
       answers-own =
           ap (λ (k : ℕ). say k (v (tables img))) (sym (number-own lay case))
           ∙ ap (λ (l : Layout). say (firstNo (qs (tablesBy lay img))) (v (tablesBy l img))) (sym (layout-with img o is lay case))

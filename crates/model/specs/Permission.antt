@@ -51,18 +51,19 @@ abbrev pub ruleBy : (LineRow → Rule) → Option LineRow → Rule → Rule
 ruleBy rule none next = next
 ruleBy rule (some l) next = rule l
 
--- The deciding rule of subject s on an item with owner o and list a. The custodian needs no line. For the owner it is the
--- owner line, for any other subject its own line, even one without privileges. If there is no such line, it is the group line
--- that the search meets first.
+-- The group line that the search meets first. If it meets none, nothing was found.
 unfoldable pub groupRule : (ℕ → ℕ) → List LineRow → ℕ → ℕ → Rule
 groupRule up lines s a = ruleBy GroupLine (groupLine up lines s a) NothingFound
 
+-- The subject's own line, even one without privileges. If there is none, the groups decide.
 unfoldable pub ownRule : (ℕ → ℕ) → List LineRow → ℕ → ℕ → Rule
 ownRule up lines s a = ruleBy OwnLine (lineIn lines a itselfKind s) (groupRule up lines s a)
 
+-- The owner line, even one without privileges. If there is none, the groups decide; the owner's own line does not.
 unfoldable pub ownerRule : (ℕ → ℕ) → List LineRow → ℕ → ℕ → Rule
 ownerRule up lines s a = ruleBy OwnerLine (lineIn lines a ownerKind 0) (groupRule up lines s a)
 
+-- The deciding rule of subject s on an item with owner o and list a. The custodian needs no line.
 unfoldable pub decidingRule : (ℕ → ℕ) → List LineRow → ℕ → ℕ → ℕ → Rule
 decidingRule up lines s o a = cond (eqb s custodian) Custodian (cond (eqb s o) (ownerRule up lines s a) (ownRule up lines s a))
 
@@ -156,20 +157,24 @@ operationSet t s r = operationUnder t s (grantOf t s r)
 abbrev pub permissionSet : Tables → ℕ → ℕ → ℕ → ℕ
 permissionSet t s r i = permissionUnder t s (grantOf t s r) i
 
--- The explanation of the permission set on item i (document 02, P1): the deciding rule, the sets that are put together, and the
--- operation set, which cuts them. First under a grant that may be missing, then under the role that s claims.
+-- The explanation of the permission set (document 02, P1): the deciding rule, the sets that are put together, and the operation
+-- set, which cuts them. First on an item whose row is x and under a grant that may be missing, then on item i, then under the
+-- role that s claims.
 
-unfoldable pub explanationUnder : Tables → ℕ → Option GrantRow → ℕ → Explanation
-explanationUnder t s g i =
+abbrev pub explanationOn : Tables → ℕ → Option GrantRow → ItemRow → Explanation
+explanationOn t s g x =
     record {
       number = 0;
-      rule = ruleNumber (ruleOn t s (itemIn (t .items) i));
-      group = ruleGroup (ruleOn t s (itemIn (t .items) i));
-      «rule_set» = ruleSetOn t s (itemIn (t .items) i);
-      «everyone_set» = everyoneOn t s (itemIn (t .items) i);
-      «role_set» = lentPart t g i;
+      rule = ruleNumber (ruleOn t s x);
+      group = ruleGroup (ruleOn t s x);
+      «rule_set» = ruleSetOn t s x;
+      «everyone_set» = everyoneOn t s x;
+      «role_set» = lentOn t g x;
       operations = operationUnder t s g;
     }
+
+unfoldable pub explanationUnder : Tables → ℕ → Option GrantRow → ℕ → Explanation
+explanationUnder t s g i = explanationOn t s g (itemIn (t .items) i)
 
 abbrev pub explanation : Tables → ℕ → ℕ → ℕ → Explanation
 explanation t s r i = explanationUnder t s (grantOf t s r) i

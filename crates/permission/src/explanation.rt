@@ -16,6 +16,7 @@ use model::Subject;
 use rows::read::item_at;
 use sizes::all_privileges;
 
+// Under a grant that the subject holds or might hold. The item's row is read once.
 pub fn explanation_under(
     image: &[u8],
     layout: Layout,
