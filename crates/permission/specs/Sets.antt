@@ -1,15 +1,18 @@
 -- The sets of a subject, put together as the code does it, and their explanation.
-use mathlib.Core.Option.{Option}
-use mathlib.Core.Path.{_≡_, ap, _∙_}
+use mathlib.Core.Option.{Option, some}
+use mathlib.Core.Path.{_≡_, sym, ap, _∙_}
 use Prim.Native.Nat.{ℕ}
+use lib.Bits.{or-zero-r}
 use Rattle.model.specs.declared.Explanation.{Explanation}
 use Rattle.model.specs.declared.GrantRow.{GrantRow}
 use Rattle.model.specs.declared.ItemRow.{ItemRow}
 use Rattle.model.specs.declared.Rule.{Rule}
+use Rattle.model.specs.declared.SoughtGrant.{SoughtGrant}
+use Rattle.model.specs.declared.SoughtGrant.the-variants.{Grant, NoGrant}
 use Rattle.model.specs.WhoAndWhat.{everything, _∪_, _∩_}
 use Rattle.model.specs.Image.{Tables, widthIn, privilegesIn, itemIn}
 use Rattle.model.specs.Permission.{ruleNumber, ruleGroup, ruleSet, ruleOn, everyoneOn, explanationUnder, explanation}
-use Rattle.model.specs.Permission.{partOn, lentOperations, lentOn, grantOf}
+use Rattle.model.specs.Permission.{foundGrant, partOn, lentOperations, lentOn, grantOf}
 use Rattle.model.specs.Permission.{operationUnder, objectUnder, permissionUnder, operationSet, permissionSet}
 
 module _ (t : Tables) (s : ℕ) (g : Option GrantRow) (a b r : ℕ) where
@@ -17,19 +20,20 @@ module _ (t : Tables) (s : ℕ) (g : Option GrantRow) (a b r : ℕ) where
   unfolding operationUnder
   operations-joined own lent both = rw (← own, ← lent) both
 
-  -- of an item whose row was read
-  pub objects-joined : (i : ℕ) (row : ItemRow)
-      → row ≡ itemIn (t .items) i
-      → a ≡ partOn t s row
-      → b ≡ lentOn t g row
-      → r ≡ a ∪ b
-      → r ≡ objectUnder t s g i
-  unfolding objectUnder
-  objects-joined i row read own lent both = rw (← read, ← own, ← lent) both
-
   pub permissions-cut : (i : ℕ) → a ≡ operationUnder t s g → b ≡ objectUnder t s g i → r ≡ a ∩ b → r ≡ permissionUnder t s g i
   unfolding permissionUnder
   permissions-cut i operations objects both = rw (← operations, ← objects) both
+
+-- the object set, on an item whose row was read, under a grant or without one
+module _ (t : Tables) (s : ℕ) (x : SoughtGrant) (i : ℕ) (row : ItemRow) (read : row ≡ itemIn (t .items) i)
+    (own : ℕ) (part : own ≡ partOn t s row) where
+  pub objects-granted : (g : GrantRow) (b r : ℕ) → x ≡ Grant g → b ≡ lentOn t (some g) row → r ≡ own ∪ b → r ≡ objectUnder t s (foundGrant x) i
+  unfolding objectUnder
+  objects-granted g b r said lent both = rw (← read, said, ← part, ← lent) both
+
+  pub objects-own : x ≡ NoGrant → own ≡ objectUnder t s (foundGrant x) i
+  unfolding objectUnder
+  objects-own said = rw (← read, said, ← part) (sym (or-zero-r own))
 
 -- the explanation, on an item whose row was read; the rule that was found has its number, its group and its set
 module _ (t : Tables) (s : ℕ) (g : Option GrantRow) (i : ℕ) where

@@ -3,9 +3,9 @@
 ghost use mathlib.Core.Path.{_≡_};
 ghost use Rattle.model.specs.Permission.{foundGrant, grantOf, operationUnder, objectUnder, permissionUnder, operationSet, permissionSet};
 ghost use Rattle.model.specs.Lent.{tablesAt};
+use crate::lines::lines_part;
+use crate::parts::granted_part;
 use crate::parts::lent_operations;
-use crate::parts::lent_part;
-use crate::parts::lines_part;
 use model::Item;
 use model::Layout;
 use model::Privileges;
@@ -41,7 +41,8 @@ pub fn operations_under(
     union(own, lent)
 }
 
-// The item's row is read once, for the lines' part of the subject and for what the grant adds.
+// The item's row is read once, for the lines' part of the subject and for what the grant adds. Without a grant it is the lines'
+// part.
 pub fn objects_under(
     image: &[u8],
     layout: Layout,
@@ -53,8 +54,10 @@ pub fn objects_under(
 {
     let row = item_at(image, layout, item);
     let own = lines_part(image, layout, subject, row);
-    let lent = lent_part(image, layout, grant, row);
-    union(own, lent)
+    match grant {
+        SoughtGrant::Grant(held) => union(own, granted_part(image, layout, held, row)),
+        SoughtGrant::NoGrant => own,
+    }
 }
 
 pub fn permissions_under(

@@ -1,10 +1,11 @@
-// The lines that apply to a subject, and the rule by which they decide. Like all functions that decide a permission, these take
-// the image and its layout and check neither. They are total: they answer by the tables that the layout cuts out of the image.
+// The lines that apply to a subject, the rule by which they decide, and what they give. Like all functions that decide a
+// permission, these take the image and its layout and check neither. They are total: they answer by the tables that the layout
+// cuts out of the image.
 ghost use mathlib.Core.Logic.{_≢_};
 ghost use mathlib.Core.Path.{_≡_};
 ghost use lib.ListN.{getElem?};
 ghost use Rattle.model.specs.Image.{everyoneKind, parentIn};
-ghost use Rattle.model.specs.Permission.{lineIn, lineSet, groupLine, groupRule, ownRule, ownerRule, ruleOn, everyoneOn};
+ghost use Rattle.model.specs.Permission.{lineIn, lineSet, groupLine, groupRule, ownRule, ownerRule, ruleOn, everyoneOn, partOn};
 ghost use Rattle.permission.specs.Climbing.{climbingLayout};
 ghost use Rattle.model.specs.Lent.{tablesAt};
 use model::CUSTODIAN;
@@ -17,10 +18,12 @@ use model::Rule;
 use model::SoughtLine;
 use model::Subject;
 use model::Table;
+use model::union;
 use rows::read::line_at;
 use search::RowIndex;
 use search::lines::find_line;
 use search::lines::line_index;
+use sizes::all_privileges;
 use tables::subjects::parent_of;
 
 // The lines that apply to a subject on an item: the rule that decides, with its line, and what the line for everyone adds.
@@ -29,9 +32,7 @@ pub struct AppliedLines {
     pub everyone: Privileges,
 }
 
-// The item's row is handed in. The custodian needs no line, and no list means no lines. The line for everyone is looked up first.
-// What it adds is joined with what the rule gives, so the order decides nothing but speed, and this one was measured to be faster
-// (docs/DECISIONS.md, D9).
+// The item's row is handed in. The custodian needs no line, and no list means no lines.
 pub fn applied_lines(image: &[u8], layout: Layout, subject: Subject, item: ItemRow) -> AppliedLines
     ensures { λ r. ⌜ r .rule ≡ ruleOn (tablesAt layout (image .entry)) (subject .0) item ⌝ }
     ensures { λ r. ⌜ r .everyone ≡ everyoneOn (tablesAt layout (image .entry)) (subject .0) item ⌝ }
@@ -48,6 +49,34 @@ pub fn applied_lines(image: &[u8], layout: Layout, subject: Subject, item: ItemR
             everyone: 0,
         };
     }
+    listed_lines(image, layout, subject, item)
+}
+
+// The lines' part of a subject on an item: what the rule gives, and what the line for everyone adds. Where there is no line to
+// look for, it is answered at once, since a report asks that very often.
+pub fn lines_part(image: &[u8], layout: Layout, subject: Subject, item: ItemRow) -> Privileges
+    ensures { λ r. ⌜ r ≡ partOn (tablesAt layout (image .entry)) (subject .0) item ⌝ }
+{
+    if subject.0 == CUSTODIAN {
+        return all_privileges(layout);
+    }
+    if item.list.0 == 0 {
+        return 0;
+    }
+    let applied = listed_lines(image, layout, subject, item);
+    let rule = applied.rule;
+    union(rule.set(all_privileges(layout)), applied.everyone)
+}
+
+// The lines that apply to a subject other than the custodian, on an item that has a list. The line for everyone is looked up
+// first. What it adds is joined with what the rule gives, so the order decides nothing but speed, and this one was measured to be
+// faster (docs/DECISIONS.md, D9).
+fn listed_lines(image: &[u8], layout: Layout, subject: Subject, item: ItemRow) -> AppliedLines
+    requires { ⌜ subject .0 ≢ 0 ⌝ }
+    requires { ⌜ item .list .0 ≢ 0 ⌝ }
+    ensures { λ r. ⌜ r .rule ≡ ruleOn (tablesAt layout (image .entry)) (subject .0) item ⌝ }
+    ensures { λ r. ⌜ r .everyone ≡ everyoneOn (tablesAt layout (image .entry)) (subject .0) item ⌝ }
+{
     let everyone = everyone_set(image, layout, item.list);
     let rule = line_rule(image, layout, subject, item);
     AppliedLines { rule, everyone }

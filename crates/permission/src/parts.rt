@@ -1,27 +1,17 @@
-// What lines give a subject on an item, and what a grant adds.
+// What a grant adds to the sets of a subject.
+ghost use mathlib.Core.Option.{some};
 ghost use mathlib.Core.Path.{_≡_};
-ghost use Rattle.model.specs.Permission.{foundGrant, partOn, lentOperations, lentOn};
+ghost use Rattle.model.specs.Permission.{foundGrant, lentOperations, lentOn};
 ghost use Rattle.model.specs.Lent.{tablesAt};
-use crate::lines::applied_lines;
+use crate::lines::lines_part;
+use model::GrantRow;
 use model::ItemRow;
 use model::Layout;
 use model::Privileges;
 use model::SoughtGrant;
-use model::Subject;
 use model::intersection;
-use model::union;
-use sizes::all_privileges;
 use tables::subjects::in_tree;
 use tables::subjects::privileges_of;
-
-// The lines' part of a subject on an item, whose row is handed in.
-pub fn lines_part(image: &[u8], layout: Layout, subject: Subject, item: ItemRow) -> Privileges
-    ensures { λ r. ⌜ r ≡ partOn (tablesAt layout (image .entry)) (subject .0) item ⌝ }
-{
-    let applied = applied_lines(image, layout, subject, item);
-    let rule = applied.rule;
-    union(rule.set(all_privileges(layout)), applied.everyone)
-}
 
 // What a grant adds to the operation set: its privileges that its grantor also has.
 pub fn lent_operations(image: &[u8], layout: Layout, grant: SoughtGrant) -> Privileges
@@ -36,18 +26,26 @@ pub fn lent_operations(image: &[u8], layout: Layout, grant: SoughtGrant) -> Priv
     }
 }
 
-// What a grant adds to the object set of an item whose owner is in the grant's domain: its privileges that are in its
-// grantor's lines' part.
+// What a grant that may be missing adds to the object set of an item.
 pub fn lent_part(image: &[u8], layout: Layout, grant: SoughtGrant, item: ItemRow) -> Privileges
     ensures { λ r. ⌜ r ≡ lentOn (tablesAt layout (image .entry)) (foundGrant grant) item ⌝ }
 {
     match grant {
-        SoughtGrant::Grant(row) => {
-            if !in_tree(image, layout, row.domain, item.owner) {
-                return 0;
-            }
-            intersection(row.privileges, lines_part(image, layout, row.grantor, item))
-        }
+        SoughtGrant::Grant(row) => granted_part(image, layout, row, item),
         SoughtGrant::NoGrant => 0,
     }
+}
+
+// What a grant adds to the object set of an item whose owner is in the grant's domain: its privileges that are in its
+// grantor's lines' part.
+pub fn granted_part(image: &[u8], layout: Layout, grant: GrantRow, item: ItemRow) -> Privileges
+    ensures { λ r. ⌜ r ≡ lentOn (tablesAt layout (image .entry)) (some grant) item ⌝ }
+{
+    if !in_tree(image, layout, grant.domain, item.owner) {
+        return 0;
+    }
+    intersection(
+        grant.privileges,
+        lines_part(image, layout, grant.grantor, item),
+    )
 }

@@ -1,7 +1,7 @@
--- `permission::decision::objects_under` meets its contract: its definition, call by call.
+-- `permission::decision::objects_under` meets its contract: under a grant, or without one.
 use borrow.Author.Needs.{needs}
 use Rattle.model.specs.Image.{tablesBy}
-use Rattle.permission.specs.Sets.{objects-joined}
+use Rattle.permission.specs.Sets.{objects-granted, objects-own}
 use Rattle.permission.proofs.decision.objects_under.Statement.{statement}
 use Rattle.permission.proofs.decision.objects_under.Tie as tie
 
@@ -11,16 +11,35 @@ item-at-requires c κs = search needs
 lines-part-requires : tie.Need-lines-part-requires
 lines-part-requires c κs = search needs
 
-lent-part-requires : tie.Need-lent-part-requires
-lent-part-requires c κs = search needs
+enum-known-grant : tie.Need-enum-known-grant
+enum-known-grant c = search needs
+
+granted-part-requires : tie.Need-granted-part-requires
+granted-part-requires c κs = search needs
 
 union-requires : tie.Need-union-requires
 union-requires c κs = search needs
 
+enum-told : tie.Need-enum-told
+enum-told c = search needs
+
 returns : tie.Need-returns
 unfolding tablesBy
-returns c = search objects-joined
+returns c = search objects-granted
+
+returns-2 : tie.Need-returns-2
+unfolding tablesBy
+returns-2 c = search objects-own
 
 pub objects-under-spec : {M : Type 1} → statement M
 objects-under-spec =
-    tie.close (tie.spec item-at-requires lines-part-requires lent-part-requires union-requires returns)
+    tie.close
+    (tie.spec
+    item-at-requires
+    lines-part-requires
+    enum-known-grant
+    granted-part-requires
+    union-requires
+    enum-told
+    returns
+    returns-2)

@@ -1,6 +1,6 @@
 -- `permission::lines::applied_lines` meets its contract: the custodian, no list, or the lines of a list.
 use borrow.Author.Needs.{needs}
-use Rattle.permission.specs.Searches.{rule-custodian, everyone-custodian, rule-unlisted, everyone-unlisted, everyone-listed}
+use Rattle.permission.specs.Searches.{rule-custodian, everyone-custodian, rule-unlisted, everyone-unlisted}
 use Rattle.permission.proofs.lines.applied_lines.Statement.{statement}
 use Rattle.permission.proofs.lines.applied_lines.Tie as tie
 
@@ -10,15 +10,11 @@ returns c = search (rule-custodian, everyone-custodian)
 returns-2 : tie.Need-returns-2
 returns-2 c = search (rule-unlisted, everyone-unlisted)
 
-everyone-set-requires : tie.Need-everyone-set-requires
-everyone-set-requires c κs = search needs
-
-line-rule-requires : tie.Need-line-rule-requires
-line-rule-requires c κs = search needs
+listed-lines-requires : tie.Need-listed-lines-requires
+listed-lines-requires c κs = search needs
 
 returns-3 : tie.Need-returns-3
-returns-3 c = search everyone-listed
+returns-3 c = search needs
 
 pub applied-lines-spec : {M : Type 1} → statement M
-applied-lines-spec =
-    tie.close (tie.spec returns returns-2 everyone-set-requires line-rule-requires returns-3)
+applied-lines-spec = tie.close (tie.spec returns returns-2 listed-lines-requires returns-3)
