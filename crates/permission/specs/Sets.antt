@@ -27,7 +27,11 @@ module _ (t : Tables) (s : ℕ) (g : Option GrantRow) (a b r : ℕ) where
 -- the object set, on an item whose row was read, under a grant or without one
 module _ (t : Tables) (s : ℕ) (x : SoughtGrant) (i : ℕ) (row : ItemRow) (read : row ≡ itemIn (t .items) i)
     (own : ℕ) (part : own ≡ partOn t s row) where
-  pub objects-granted : (g : GrantRow) (b r : ℕ) → x ≡ Grant g → b ≡ lentOn t (some g) row → r ≡ own ∪ b → r ≡ objectUnder t s (foundGrant x) i
+  pub objects-granted : (g : GrantRow) (b r : ℕ)
+      → x ≡ Grant g
+      → b ≡ lentOn t (some g) row
+      → r ≡ own ∪ b
+      → r ≡ objectUnder t s (foundGrant x) i
   unfolding objectUnder
   objects-granted g b r said lent both = rw (← read, said, ← part, ← lent) both
 
