@@ -14,16 +14,19 @@ use Rattle.model.specs.Tree.{inTree, below}
 use Rattle.model.specs.Image.{Tables, parentIn, groupKind, linesHold}
 use Rattle.model.specs.Permission.{lineIn, groupLine}
 use Rattle.laws.specs.Tests.{and-l, and-r, le-or-lt}
-use Rattle.laws.specs.Tree.{group-up, tree-low, own-tree, below-up, up-below, parent-or-above}
+use Rattle.laws.specs.Tree.{group-up, tree-low, own-tree, below-up, up-below, itself-or-below}
 use Rattle.laws.specs.Standing.{found-key}
 
 module _ (t : Tables) (hold : T (linesHold t)) (a : ℕ) where
   abbrev up : ℕ → ℕ
   up = parentIn (t .subjects)
 
+  -- the group line for p, if the list has one
   abbrev pub groupOf : ℕ → Option LineRow
   groupOf p = lineIn (t .lines) a groupKind p
 
+  -- What the search from s meets is none, and then nobody above s has a group line. Or it is a line l: s is below its subject,
+  -- which has that line, and nobody between the two has one.
   abbrev pub Met : ℕ → Option LineRow → Type 0
   Met s none = (p : ℕ) → T (below up p s) → groupOf p ≡ none
   Met s (some l) =
@@ -47,7 +50,7 @@ module _ (t : Tables) (hold : T (linesHold t)) (a : ℕ) where
   -- the parent has none, so it is what the search meets above the parent
   met-above : (s : ℕ) (o : Option LineRow) → up s < s → groupOf (up s) ≡ none → Met (up s) o → Met s o
   met-above s none low e rest = λ p above.
-      elim (parent-or-above up p (up s) (below-up up p s above .1)) [
+      elim (itself-or-below up p (up s) (below-up up p s above .1)) [
         | inl here ↦ rw (← here) e
         | inr further ↦ rest p further
       ]
@@ -56,7 +59,7 @@ module _ (t : Tables) (hold : T (linesHold t)) (a : ℕ) where
     (
       rest .1 .0,
       λ p above between.
-          elim (parent-or-above up p (up s) (below-up up p s above .1)) [
+          elim (itself-or-below up p (up s) (below-up up p s above .1)) [
             | inl here ↦ rw (← here) e
             | inr further ↦ rest .1 .1 p further between
           ],
@@ -89,25 +92,33 @@ module _ (t : Tables) (hold : T (linesHold t)) (a : ℕ) where
   pub met : (s : ℕ) → Met s (groupLine up (t .lines) s a)
   met s = met-within s s (omega arith)
 
-  -- If h is the nearest above s that has a group line, the search meets that line; if nobody above s has one, it meets none.
+  -- The other way round: if h is the nearest above s that has a group line, the search meets that line. If nobody above s has
+  -- one, it meets none.
 
-  pub meets : (h n s : ℕ) (l : LineRow)
+  meets-within : (h n s : ℕ) (l : LineRow)
       → s ≤ n
       → T (below up h s)
       → groupOf h ≡ some l
       → ((p : ℕ) → T (below up p s) → T (below up h p) → groupOf p ≡ none)
       → groupLine up (t .lines) s a ≡ some l
-  meets h zero s l enough b e nearest = absurd (omega (arith, below-up up h s b .0))
-  meets h (suc n) s l enough b e nearest =
+  meets-within h zero s l enough b e nearest = absurd (omega (arith, below-up up h s b .0))
+  meets-within h (suc n) s l enough b e nearest =
       let over = below-up up h s b in
       rw (group-up up (t .lines) a s, lt-ltb (up s) s (over .0))
-      (elim (parent-or-above up h (up s) (over .1)) [
+      (elim (itself-or-below up h (up s) (over .1)) [
         | inl here ↦ rw (here, e)
         | inr further ↦
             rw (nearest (up s) (up-below up (up s) s (over .0) (own-tree up (up s))) further)
-            (meets h n (up s) l (omega (arith, over .0)) further e
+            (meets-within h n (up s) l (omega (arith, over .0)) further e
             (λ p above. nearest p (up-below up p s (over .0) (and-l (inTree up p (up s)) (not (eqb (up s) p)) above))))
       ])
+
+  pub meets : (h s : ℕ) (l : LineRow)
+      → T (below up h s)
+      → groupOf h ≡ some l
+      → ((p : ℕ) → T (below up p s) → T (below up h p) → groupOf p ≡ none)
+      → groupLine up (t .lines) s a ≡ some l
+  meets h s l = meets-within h s s l (omega arith)
 
   pub meets-none : (s : ℕ) → ((p : ℕ) → T (below up p s) → groupOf p ≡ none) → groupLine up (t .lines) s a ≡ none
   meets-none s missing = go (groupLine up (t .lines) s a) (met s)

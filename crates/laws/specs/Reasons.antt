@@ -5,7 +5,6 @@ use mathlib.Core.Logic.{inl, inr, _≢_}
 use mathlib.Core.Option.{Option, none, some}
 use mathlib.Core.Path.{_≡_, refl, sym, ap, _∙_}
 use Prim.Native.Nat.{ℕ}
-use native.Mathlib.Omega.{arith}
 use borrow.Author.Tests.{eq-eqb, ne-eqb}
 use lib.Dec.{T}
 use Rattle.model.specs.declared.ItemRow.{ItemRow}
@@ -111,7 +110,7 @@ module _ (t : Tables) (hold : T (linesHold t)) (s : ℕ) (x : ItemRow) where
   )
   the-rule (by-group-line {h} {v} other direct b at nearest) =
       let l : LineRow = lineRow (x .list .0) groupKind h v in
-      let found = meets t hold (x .list .0) h s s l (omega arith) b (only-row t hold (x .list .0) groupKind h v at)
+      let found = meets t hold (x .list .0) h s l b (only-row t hold (x .list .0) groupKind h v at)
       (λ p above between. no-row t hold (x .list .0) groupKind p (nearest p above between)) in
       (GroupLine l, (by-groups-alone other direct ∙ rw found, (refl, (refl, refl))))
   the-rule (by-nothing other direct missing) =

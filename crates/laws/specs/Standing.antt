@@ -1,7 +1,7 @@
 -- Lines by list, kind and subject, in tables whose lines hold their rules, as those of an accepted image do: a line is found
 -- exactly if it stands in the table. No line is one of list 0, since that is no list.
 use mathlib.Core.Bool.{true, _&&_}
-use mathlib.Core.List.{List, [], _∷_}
+use mathlib.Core.List.{[], _∷_}
 use mathlib.Core.Option.{Option, none, some, Option·none-ne-some}
 use mathlib.Core.Path.{_≡_, refl, sym, ap, _∙_}
 use Prim.Native.Nat.{ℕ, zero, suc}
@@ -11,7 +11,7 @@ use Rattle.model.specs.Image.{Tables, lineRow, lineKey, isList, kindFits, subje
 use Rattle.model.specs.Permission.{lineIn}
 use Rattle.model.specs.Reasons.{Stands, Absent}
 use Rattle.laws.specs.Tests.{and-l, All-index}
-use Rattle.laws.specs.Sorted.{find-plain, plain-row, plain-none, plain-at}
+use Rattle.laws.specs.Sorted.{plain, find-plain, plain-row, plain-none, plain-at}
 use Rattle.laws.specs.Kept.{line-rules, lines-ascending}
 
 -- a line is its key and its privileges
@@ -23,18 +23,23 @@ row-by-key l a kind h e =
     rw (← its-list, ← its-kind, ← its-subject)
 
 module _ (t : Tables) (hold : T (linesHold t)) where
+  -- the search is the plain one
+  by-plain : (a kind h : ℕ) → lineIn (t .lines) (suc a) kind h ≡ plain lineKey (suc a ∷ kind ∷ h ∷ []) (t .lines)
+  by-plain a kind h = find-plain lineKey (suc a ∷ kind ∷ h ∷ []) (t .lines) (lines-ascending t hold)
+
+  found-row : (a kind h : ℕ) (l : LineRow)
+      → lineIn (t .lines) a kind h ≡ some l
+      → Stands (t .lines) l × (lineKey l ≡ a ∷ kind ∷ h ∷ [])
+  found-row zero kind h l e = absurd (Option·none-ne-some l e)
+  found-row (suc a) kind h l e = plain-row lineKey (suc a ∷ kind ∷ h ∷ []) (t .lines) l (sym (by-plain a kind h) ∙ e)
+
   pub found-key : (a kind h : ℕ) (l : LineRow) → lineIn (t .lines) a kind h ≡ some l → lineKey l ≡ a ∷ kind ∷ h ∷ []
-  found-key zero kind h l e = absurd (Option·none-ne-some l e)
-  found-key (suc a) kind h l e =
-      let k : List ℕ = suc a ∷ kind ∷ h ∷ [] in
-      plain-row lineKey k (t .lines) l (sym (find-plain lineKey k (t .lines) (lines-ascending t hold)) ∙ e) .1
+  found-key a kind h l e = found-row a kind h l e .1
 
   pub stands : (a kind h : ℕ) (l : LineRow) → lineIn (t .lines) a kind h ≡ some l → Stands (t .lines) (lineRow a kind h (l .privileges))
-  stands zero kind h l e = absurd (Option·none-ne-some l e)
-  stands (suc a) kind h l e =
-      let k : List ℕ = suc a ∷ kind ∷ h ∷ [] in
-      let row = plain-row lineKey k (t .lines) l (sym (find-plain lineKey k (t .lines) (lines-ascending t hold)) ∙ e) in
-      (row .0 .0, row .0 .1 ∙ ap some (row-by-key l (suc a) kind h (row .1)))
+  stands a kind h l e =
+      let row = found-row a kind h l e in
+      (row .0 .0, row .0 .1 ∙ ap some (row-by-key l a kind h (row .1)))
 
   pub absent : (a kind h : ℕ) → lineIn (t .lines) a kind h ≡ none → Absent (t .lines) a kind h
   absent zero kind h e v at =
@@ -42,17 +47,14 @@ module _ (t : Tables) (hold : T (linesHold t)) where
       and-l (isList (t .items) 0) (kindFits kind h && (subjectUsed (t .subjects) h && true))
       (All-index (λ x. T (lineRules (t .subjects) (t .items) x)) (t .lines) (at .0) l (line-rules t hold) (at .1))
   absent (suc a) kind h e v at =
-      let k : List ℕ = suc a ∷ kind ∷ h ∷ [] in
-      plain-none lineKey k (t .lines) (at .0) (lineRow (suc a) kind h v)
-      (sym (find-plain lineKey k (t .lines) (lines-ascending t hold)) ∙ e) (at .1) refl
+      plain-none lineKey (suc a ∷ kind ∷ h ∷ []) (t .lines) (at .0) (lineRow (suc a) kind h v) (sym (by-plain a kind h) ∙ e) (at .1) refl
 
   -- and the other way round
 
   pub only-row : (a kind h v : ℕ) → Stands (t .lines) (lineRow a kind h v) → lineIn (t .lines) a kind h ≡ some (lineRow a kind h v)
   only-row zero kind h v at = absurd (absent zero kind h refl v at)
   only-row (suc a) kind h v at =
-      find-plain lineKey (suc a ∷ kind ∷ h ∷ []) (t .lines) (lines-ascending t hold)
-      ∙ plain-at lineKey (t .lines) (at .0) (lineRow (suc a) kind h v) (lines-ascending t hold) (at .1)
+      by-plain a kind h ∙ plain-at lineKey (t .lines) (at .0) (lineRow (suc a) kind h v) (lines-ascending t hold) (at .1)
 
   pub no-row : (a kind h : ℕ) → Absent (t .lines) a kind h → lineIn (t .lines) a kind h ≡ none
   no-row a kind h missing = go (lineIn (t .lines) a kind h) refl

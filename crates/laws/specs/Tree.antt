@@ -75,8 +75,8 @@ module _ (up : ℕ → ℕ) where
       (and-i (ltb (up s) s) (inTree up h (up s)) (lt→ltb (up s) s low) u)))
       (not-T (eqb s h) (λ same. omega (arith, eqb→eq s h same, tree-low h (up s) u)))
 
-  pub parent-or-above : (h s : ℕ) → T (inTree up h s) → (s ≡ h) ⊎ T (below up h s)
-  parent-or-above h s u =
+  pub itself-or-below : (h s : ℕ) → T (inTree up h s) → (s ≡ h) ⊎ T (below up h s)
+  itself-or-below h s u =
       elim (eq-or-ne s h) [
         | inl same ↦ inl same
         | inr other ↦ inr (and-i (inTree up h s) (not (eqb s h)) u (not-T (eqb s h) (λ same. other (eqb→eq s h same))))
