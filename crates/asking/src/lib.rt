@@ -2,6 +2,7 @@
 // answered no. A refused call has only read.
 pub mod editor;
 pub mod explanation;
+pub mod holders;
 pub mod lines;
 mod list_rows;
 pub mod sets;

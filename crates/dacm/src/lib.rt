@@ -4,7 +4,7 @@
 ghost use mathlib.Core.Path.{_≡_};
 ghost use Rattle.model.specs.Calls.Ask.{checkImage, operationSetOf, permissionSetOf, listCount};
 ghost use Rattle.model.specs.Calls.Change.{defineSubject, setGrant, removeGrant, setLine, removeLine, createItem, bind, handOver};
-ghost use Rattle.model.specs.Questions.{ask, explain, act, listStart, EditorAnswer};
+ghost use Rattle.model.specs.Questions.{ask, explain, countHolders, act, listStart, EditorAnswer};
 use model::Answer;
 use model::Explanation;
 use model::Item;
@@ -55,6 +55,16 @@ pub extern "C" fn dacm_explain(
     ensures { λ r. ⌜ r ≡ explain (now (image .entry)) (subject .0) (role .0) (item .0) ⌝ }
 {
     asking::explanation::explain(image, subject, role, item)
+}
+
+// Counts the subjects, the custodian among them, whose permission set without a role has a position on the item: entry n
+// of `counts` receives the number for position n. There must be an entry for each position. The result is 0.
+#[no_mangle]
+pub extern "C" fn dacm_count_holders(image: &[u8], item: Item, counts: &mut [u32]) -> Answer
+    ensures { λ r. ⌜ r ≡ countHolders (now (image .entry)) (item .0) (now (counts .entry)) .answer ⌝ }
+    ensures { λ _. ⌜ now (counts .exit) ≡ countHolders (now (image .entry)) (item .0) (now (counts .entry)) .counts ⌝ }
+{
+    asking::holders::count_holders(image, item, counts)
 }
 
 // Counts the lines of a list. The result is how many rows it has.

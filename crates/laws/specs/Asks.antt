@@ -6,6 +6,7 @@ use mathlib.Core.Path.{_≡_, refl, sym, ap, _∙_}
 use Prim.Native.Nat.{ℕ}
 use borrow.Author.Tests.{ne-eqb}
 use lib.Dec.{eqb}
+use lib.ListN.{length}
 use Rattle.model.specs.declared.Answer.{Answer}
 use Rattle.model.specs.declared.Explanation.{Explanation}
 use Rattle.model.specs.declared.Layout.{Layout}
@@ -13,10 +14,10 @@ use Rattle.model.specs.declared.Opened.{Opened}
 use Rattle.model.specs.declared.Opened.the-variants.{With, Refused}
 use Rattle.model.specs.Image.{Tables, tablesBy, tables}
 use Rattle.model.specs.Permission.{explanation}
-use Rattle.model.specs.Calls.{Ask, askResult}
+use Rattle.model.specs.Calls.{Ask, askResult, holderCounts}
 use Rattle.model.specs.Calls.Ask.{checkImage}
-use Rattle.model.specs.Questions.{Question, firstNo, imageQuestions, askQuestions, explainQuestions, check, opened}
-use Rattle.model.specs.Questions.{answer, answered, ask, refusedExplanation, explained, explain}
+use Rattle.model.specs.Questions.{Question, firstNo, imageQuestions, askQuestions, explainQuestions, holdersQuestions, check, opened}
+use Rattle.model.specs.Questions.{answer, answered, ask, refusedExplanation, explained, explain, countHolders}
 use Rattle.laws.specs.Answers.{first-left, first-right, asked-all}
 use Rattle.laws.specs.Opens.{refused-by, opened-with, layout-with}
 
@@ -126,6 +127,47 @@ module _ (img : List ℕ) (o : Opened) (is : o ≡ opened img) (s r i : ℕ) (x 
     explain-done h e =
         answers-done img o is (λ t. explainQuestions t s i) explained refusedExplanation explained-refused
         (λ t. explanation t s r i) lay case x h e
+
+-- Count holders: first its answer a.
+module _ (img : List ℕ) (o : Opened) (is : o ≡ opened img) (i : ℕ) (old : List ℕ) (a : Answer) where
+  abbrev asked : Tables → List Question
+  asked t = holdersQuestions t i (length old)
+
+  pub count-image : (n : ℕ) → o ≡ Refused n → a ≡ answer n 0 → a ≡ countHolders img i old .answer
+  unfolding countHolders
+  count-image n case e = e ∙ result-image img o is asked (λ t. 0) n case
+
+  module _ (lay : Layout) (case : o ≡ With lay) where
+    pub count-no : (k : ℕ) → eqb k 0 ≡ false → k ≡ firstNo (asked (tablesBy lay img)) → a ≡ answer k 0 → a ≡ countHolders img i old .answer
+    unfolding countHolders
+    count-no k some h e = e ∙ result-no img o is asked (λ t. 0) lay case k some h
+
+    pub count-done : 0 ≡ firstNo (asked (tablesBy lay img)) → a ≡ answer 0 0 → a ≡ countHolders img i old .answer
+    unfolding countHolders
+    count-done h e = e ∙ result-done img o is asked (λ t. 0) lay case 0 h refl
+
+-- Then the counts, which follow from the answer. The call promises both.
+pub count-also : (img : List ℕ) (i : ℕ) (old : List ℕ) (a : Answer) (new : List ℕ)
+    → a ≡ countHolders img i old .answer
+    → (a ≡ countHolders img i old .answer → new ≡ countHolders img i old .counts)
+    → (a ≡ countHolders img i old .answer) × (new ≡ countHolders img i old .counts)
+count-also img i old a new e f = (e, f e)
+
+module _ (img : List ℕ) (i : ℕ) (old : List ℕ) (a : Answer) (answered-so : a ≡ countHolders img i old .answer) where
+  number-is : (k : ℕ) → a ≡ answer k 0 → countHolders img i old .answer .number ≡ k
+  number-is k e = ap (λ (x : Answer). x .number) (sym answered-so ∙ e)
+
+  pub counts-kept : (k : ℕ) → a ≡ answer k 0 → eqb k 0 ≡ false → old ≡ countHolders img i old .counts
+  unfolding countHolders
+  counts-kept k e some = rw (number-is k e, some)
+
+  pub counts-left : (o : Opened) → o ≡ opened img
+      → (lay : Layout) → o ≡ With lay
+      → (new : List ℕ) → new ≡ holderCounts (tablesBy lay img) i (length old)
+      → a ≡ answer 0 0
+      → new ≡ countHolders img i old .counts
+  unfolding countHolders
+  counts-left o is lay case new left e = left ∙ rw (number-is 0 e, layout-with img o is lay case)
 
 -- the check asks nothing more than the questions of the image
 module _ (img : List ℕ) (o : Opened) (is : o ≡ opened img) (a : Answer) where

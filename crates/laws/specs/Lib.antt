@@ -1,7 +1,8 @@
 -- Theorems about the definitions of `model` alone; specs/Lib.antt of `model` lists the files with these definitions. Some
 -- theorems have the form in which a proof about code needs them.
--- First the laws of the general definitions: tests, sorted tables, sets, trees, rows by number, questions.
+-- First the laws of the general definitions: tests, counts, sorted tables, sets, trees, rows by number, questions.
 pub mod Tests
+pub mod Counts
 pub mod Sorted
 pub mod Sets
 pub mod Tree

@@ -1,8 +1,10 @@
 -- Opening an image: how code arrives at each case, and what each case says of the image.
-use mathlib.Core.Bool.{false≢true}
+use mathlib.Core.Bool.{false, false≢true}
 use mathlib.Core.List.{List}
 use mathlib.Core.Path.{_≡_, refl}
 use Prim.Native.Nat.{ℕ}
+use borrow.Author.Tests.{ne-eqb}
+use lib.Dec.{eqb}
 use Rattle.model.specs.declared.Layout.{Layout}
 use Rattle.model.specs.declared.Opened.{Opened}
 use Rattle.model.specs.declared.Opened.the-variants.{With, Refused}
@@ -35,6 +37,9 @@ module _ (img : List ℕ) where
 
     pub refused-not : (n : ℕ) → o ≡ Refused n → n ≡ 0 → ⊥
     refused-not n case = refused-by n case .1
+
+    pub refused-some : (n : ℕ) → o ≡ Refused n → eqb n 0 ≡ false
+    refused-some n case = ne-eqb n 0 (refused-not n case)
 
     pub opened-with : (lay : Layout) → o ≡ With lay → (check img ≡ 0) × (lay ≡ layoutOf img)
     unfolding opened

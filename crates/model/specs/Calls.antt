@@ -9,7 +9,7 @@ use Rattle.model.specs.declared.SubjectRow.{SubjectRow}
 use Rattle.model.specs.declared.GrantRow.{GrantRow}
 use Rattle.model.specs.declared.LineRow.{LineRow}
 use Rattle.model.specs.declared.ItemRow.{ItemRow}
-use Rattle.model.specs.Lists.{select, All}
+use Rattle.model.specs.Lists.{howMany, ofEach, select, All}
 use Rattle.model.specs.Sorted.{put, cut}
 use Rattle.model.specs.WhoAndWhat.{custodian, editList, has, _∩_}
 use Rattle.model.specs.Image.{Tables, subjectRow, grantRow, lineRow, itemRow, withList}
@@ -70,6 +70,14 @@ setsOf (handOver c i o) = []
 -- Every number and privilege set that the call is handed has at most 32 bits.
 abbrev pub Handed : Change → Type 0
 Handed c = All (λ v. v < 2 ^ 32) (numbersOf c) × All (λ v. v < 2 ^ 32) (setsOf c)
+
+-- Count holders (document 02, P2): how many subjects in use hold position n on item i, which means that their permission set under
+-- role 0 has it. The custodian is one of those who are looked at. Then these numbers for the first k positions, in their order.
+unfoldable pub holders : Tables → ℕ → ℕ → ℕ
+holders t i n = howMany (λ s. has n (permissionSet t s 0 i)) (length (t .subjects))
+
+unfoldable pub holderCounts : Tables → ℕ → ℕ → List ℕ
+holderCounts t i k = ofEach (holders t i) k
 
 -- Lines of a list: its rows, and the rows of lists with a lower number, which stand before them in the table.
 abbrev pub rowsOf : ℕ → List LineRow → List LineRow

@@ -2,7 +2,7 @@
 use mathlib.Core.Bool.{Bool, true, false, _&&_, not, cond}
 use mathlib.Core.List.{List, [], _∷_}
 use mathlib.Core.Option.{Option, none, some}
-use Prim.Native.Nat.{ℕ, suc, _+_, _<_}
+use Prim.Native.Nat.{ℕ, zero, suc, _+_, _<_}
 use lib.Dec.{eqb}
 
 -- every test of a list is passed
@@ -13,6 +13,16 @@ allOf (b ∷ bs) = b && allOf bs
 abbrev pub sum : List ℕ → ℕ
 sum [] = 0
 sum (n ∷ ns) = n + sum ns
+
+-- how many of the numbers below n pass a test
+unfoldable pub howMany : (ℕ → Bool) → ℕ → ℕ
+howMany test zero = 0
+howMany test (suc n) = cond (test n) (suc (howMany test n)) (howMany test n)
+
+-- f of each number below n, in ascending order
+unfoldable pub ofEach : (ℕ → ℕ) → ℕ → List ℕ
+ofEach f zero = []
+ofEach f (suc n) = f 0 ∷ ofEach (λ k. f (suc k)) n
 
 module _ {A : Type 0} where
   -- every row passes a test

@@ -17,13 +17,13 @@ use Rattle.model.specs.declared.Opened.the-variants.{With, Refused}
 use Rattle.model.specs.Lists.{allOf, someNumbered, ifThere, isThere, Bytes}
 use Rattle.model.specs.Sorted.{find}
 use Rattle.model.specs.Tree.{inTree}
-use Rattle.model.specs.WhoAndWhat.{custodian, defineCall, createCall, setLineCall, removeLineCall, neededPosition, has}
+use Rattle.model.specs.WhoAndWhat.{custodian, defineCall, createCall, setLineCall, removeLineCall, neededPosition, positionsOf, has}
 use Rattle.model.specs.Image.{shortestImage, longestImage, Tables, layoutOf, tablesBy, tables, encode}
-use Rattle.model.specs.Image.{widthOf, size, lineFormat, grantKey, lineKey, parentIn, subjectUsed}
+use Rattle.model.specs.Image.{widthOf, widthIn, size, lineFormat, grantKey, lineKey, parentIn, subjectUsed}
 use Rattle.model.specs.Image.{itemIn, itemUsed, isList, isLocked, noneOrList, flagsFit, kindFits}
 use Rattle.model.specs.Image.{layoutRules, subjectsHold, itemsHold, linesHold, grantsHold, unusedRules}
 use Rattle.model.specs.Permission.{grantOf, operationSet, permissionSet, explanation}
-use Rattle.model.specs.Calls.{Ask, Change, rowsOf, rowsBefore, isEditor, askResult, after, changeResult}
+use Rattle.model.specs.Calls.{Ask, Change, holderCounts, rowsOf, rowsBefore, isEditor, askResult, after, changeResult}
 use Rattle.model.specs.Calls.Ask.{checkImage, operationSetOf, permissionSetOf, listCount}
 use Rattle.model.specs.Calls.Change.{defineSubject, setGrant, removeGrant, setLine, removeLine, createItem, bind, handOver}
 
@@ -66,6 +66,10 @@ askQuestions t (listCount a) = 13 asks isList (t .items) a ∷ []
 
 unfoldable pub explainQuestions : Tables → ℕ → ℕ → List Question
 explainQuestions t s i = 10 asks subjectUsed (t .subjects) s ∷ 12 asks itemUsed (t .items) i ∷ []
+
+-- k is the number of the counts that are lent
+unfoldable pub holdersQuestions : Tables → ℕ → ℕ → List Question
+holdersQuestions t i k = 12 asks itemUsed (t .items) i ∷ 21 asks eqb k (positionsOf (widthIn t)) ∷ []
 
 unfoldable pub editorQuestions : Tables → ℕ → List Question
 editorQuestions t a = 13 asks isList (t .items) a ∷ 20 asks someNumbered (λ s row. isEditor t s a) (t .subjects) ∷ []
@@ -194,6 +198,19 @@ explained n e = cond (eqb n 0) e (refusedExplanation n)
 
 unfoldable pub explain : List ℕ → ℕ → ℕ → ℕ → Explanation
 explain img s r i = explained (firstNo (imageQuestions img ++ explainQuestions (tables img) s i)) (explanation (tables img) s r i)
+
+-- The outcome of count holders: its answer, whose result is 0, and the lent counts afterwards. They are overwritten. A refused
+-- call changes none of them.
+pub record Counting : Type 0 where
+  pub answer : Answer
+  pub counts : List ℕ
+
+abbrev pub counting : ℕ → List ℕ → List ℕ → Counting
+counting n old new = record { answer = answered n 0; counts = cond (eqb n 0) new old }
+
+unfoldable pub countHolders : List ℕ → ℕ → List ℕ → Counting
+countHolders img i old =
+    counting (firstNo (imageQuestions img ++ holdersQuestions (tables img) i (length old))) old (holderCounts (tables img) i (length old))
 
 -- The outcome of a call that writes: its answer, and the image afterwards. A refused call changes no byte.
 pub record Outcome : Type 0 where

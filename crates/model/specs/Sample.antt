@@ -1,14 +1,15 @@
 -- Document 01, "The sample workshop": the tables, and the twelve sets that are proved. Then the explanation of each of them
--- (document 02, P1).
+-- (document 02, P1), and how many subjects hold each position (P2).
 use mathlib.Core.Bool.{Bool, _&&_}
 use mathlib.Core.List.{List, [], _∷_}
 use Prim.Native.Nat.{ℕ}
 use lib.Dec.{eqb}
+use lib.ListN.{replicate}
 use Rattle.model.specs.declared.Explanation.{Explanation}
 use Rattle.model.specs.WhoAndWhat.{everything}
 use Rattle.model.specs.Image.{Tables, subjectRow, grantRow, lineRow, itemRow, itselfKind, groupKind, ownerKind, everyoneKind}
 use Rattle.model.specs.Calls.Ask.{permissionSetOf}
-use Rattle.model.specs.Questions.{ask, refusedExplanation, explain}
+use Rattle.model.specs.Questions.{answer, ask, refusedExplanation, explain, Counting, countHolders}
 
 -- Each table has one free row.
 unfoldable pub workshop : Tables
@@ -106,3 +107,42 @@ furtherCases = case 0 0 2 0 ∷ case 6 0 2 0 ∷ case 2 0 5 0 ∷ []
 
 abbrev pub furtherReasons : List Explanation
 furtherReasons = because 1 0 4294967295 0 0 4294967295 ∷ refusedExplanation 10 ∷ refusedExplanation 12 ∷ []
+
+-- Count holders on item i with k lent counts, each of which is 9 before the call.
+pub record Count : Type 0 where
+  pub item : ℕ
+  pub entries : ℕ
+
+abbrev count : ℕ → ℕ → Count
+count i k = record { item = i; entries = k }
+
+abbrev lent : ℕ → List ℕ
+lent k = replicate k 9
+
+abbrev pub countedCase : List ℕ → Count → Counting
+countedCase img c = countHolders img (c .item) (lent (c .entries))
+
+-- Each item; then an item that is not in use, one count too few, one too many, and both an item that is not in use and one count
+-- too few.
+abbrev pub countCases : List Count
+countCases = count 1 32 ∷ count 2 32 ∷ count 3 32 ∷ count 4 32 ∷ count 5 32 ∷ count 2 31 ∷ count 2 33 ∷ count 5 31 ∷ []
+
+-- the numbers for read, replace, discard and annotate; every other position is held by the custodian alone
+abbrev held : ℕ → ℕ → ℕ → ℕ → Counting
+held a b c d = record { answer = answer 0 0; counts = a ∷ b ∷ c ∷ d ∷ replicate 28 1 }
+
+-- refused with n, and the k lent counts as they were
+abbrev untouched : ℕ → ℕ → Counting
+untouched n k = record { answer = answer n 0; counts = lent k }
+
+abbrev pub countOutcomes : List Counting
+countOutcomes =
+    held 6 3 2 2
+    ∷ held 6 2 1 2
+    ∷ held 6 2 1 1
+    ∷ held 1 1 1 1
+    ∷ untouched 12 32
+    ∷ untouched 21 31
+    ∷ untouched 21 33
+    ∷ untouched 12 31
+    ∷ []

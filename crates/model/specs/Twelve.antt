@@ -1,6 +1,7 @@
 -- The twelve sets of the sample workshop, proved against the rules: the permission set call answers each of them on the
 -- workshop's image, which is accepted. One theorem covers the whole table. Another covers the explanations of these sets, a third
--- three further explanations, two of them refused. All are proved by computation.
+-- three further explanations, two of them refused, a fourth the counts of holders on each item and four refused calls. All are
+-- proved by computation.
 use mathlib.Core.List.{map}
 use mathlib.Core.Path.{_≡_, refl}
 use lib.Dec.{T}
@@ -8,6 +9,7 @@ use Rattle.model.specs.Lists.{every}
 use Rattle.model.specs.Image.{encode}
 use Rattle.model.specs.Computing.{computing}
 use Rattle.model.specs.Sample.{workshop, twelve, right, reasons, explainedCase, furtherCases, furtherReasons}
+use Rattle.model.specs.Sample.{countedCase, countCases, countOutcomes}
 
 pub the-twelve : T (every (right (encode workshop)) twelve)
 unfolding workshop computing
@@ -20,3 +22,7 @@ the-reasons = refl
 pub the-further-reasons : map (explainedCase (encode workshop)) furtherCases ≡ furtherReasons
 unfolding workshop computing
 the-further-reasons = refl
+
+pub the-counts : map (countedCase (encode workshop)) countCases ≡ countOutcomes
+unfolding workshop computing
+the-counts = refl

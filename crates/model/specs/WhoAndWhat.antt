@@ -3,7 +3,7 @@
 -- read (0), replace (1), discard (2), annotate (3), create items (4), define subjects (5) and edit an access list (6). All
 -- higher ones belong to the host.
 use mathlib.Core.Bool.{Bool, cond}
-use Prim.Native.Nat.{ℕ, zero, suc, _/_, _%_, _^_, _-_}
+use Prim.Native.Nat.{ℕ, zero, suc, _*_, _/_, _%_, _^_, _-_}
 use lib.Bits.{bitAnd, bitOr}
 use lib.Dec.{eqb, ltb}
 
@@ -23,6 +23,10 @@ editList = 6
 -- how many bytes a privilege field has
 abbrev pub privilegeWidth : ℕ
 privilegeWidth = 4
+
+-- how many positions a privilege field of w bytes has
+abbrev pub positionsOf : ℕ → ℕ
+positionsOf w = 8 * w
 
 -- "All": every position of a privilege field of w bytes
 abbrev pub everything : ℕ → ℕ

@@ -1,4 +1,4 @@
-// The refusals of document 01, "Questions before each call", in its order.
+// The refusals of document 01, "Questions before each call", and of document 02, in the order in which they are asked.
 pub const BAD_LENGTH: u32 = 1;
 
 pub const BAD_LAYOUT: u32 = 2;
@@ -18,6 +18,8 @@ pub const UNKNOWN_CALLER: u32 = 10;
 pub const UNKNOWN_SUBJECT: u32 = 11;
 
 pub const UNKNOWN_ITEM: u32 = 12;
+
+pub const BAD_COUNTS_LENGTH: u32 = 21;
 
 pub const NOT_A_LIST: u32 = 13;
 

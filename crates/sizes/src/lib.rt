@@ -4,7 +4,7 @@
 ghost use mathlib.Core.Path.{_≡_};
 ghost use Prim.Native.Nat.{_+_, _*_, _≤_, _<_, _^_};
 ghost use Rattle.model.specs.Image.{bytesOf, fieldAt, size, subjectFormat, grantFormat, lineFormat, itemFormat, widthOf};
-ghost use Rattle.model.specs.WhoAndWhat.{everything};
+ghost use Rattle.model.specs.WhoAndWhat.{everything, positionsOf};
 ghost use Rattle.fields.specs.Edits.{putBytes};
 use fields::numbers::field;
 use fields::numbers::put_field;
@@ -38,6 +38,13 @@ pub fn all_privileges(layout: Layout) -> Privileges
     ensures { λ r. ⌜ r ≡ everything (widthOf layout) ⌝ }
 {
     4294967295
+}
+
+// How many positions a privilege set has.
+pub fn positions(layout: Layout) -> usize
+    ensures { λ r. ⌜ r ≡ positionsOf (widthOf layout) ⌝ }
+{
+    32
 }
 
 pub fn subject_size(layout: Layout) -> usize

@@ -1,0 +1,60 @@
+-- `asking::holders::count_subjects` meets its contract: in each turn of the loop, the subjects below n are counted.
+use mathlib.Core.Path.{_≡_}
+use Prim.Native.Nat.{_-_, _≤_}
+use lib.ListN.{length}
+use native.Mathlib.Omega.{arith}
+use borrow.Author.Needs.{needs}
+use Rattle.model.specs.Image.{tablesBy}
+use Rattle.asking.specs.Editors.{subjects-used}
+use Rattle.asking.specs.Counting.{Tally, tally-none, tally-fits, tally-one, tally-length, tally-all}
+use Rattle.asking.proofs.holders.count_subjects.Statement.{statement}
+use Rattle.asking.proofs.holders.count_subjects.Tie as tie
+
+abbrev Inv-loop : tie.InvT-loop
+Inv-loop image layout item counts₀ used n₀ counts n = Tally (tablesBy layout image) (item .0) (length counts₀) n counts
+
+abbrev μ-loop : tie.MeasureT-loop
+μ-loop image layout item counts₀ used n₀ counts n = used - n
+
+clear-requires : tie.Need-clear-requires Inv-loop μ-loop
+clear-requires c κs = search needs
+
+loop-holds : tie.Need-loop-holds Inv-loop μ-loop
+loop-holds c = search tally-none
+
+permissions-under-requires : tie.Need-permissions-under-requires Inv-loop μ-loop
+permissions-under-requires c κs = search needs
+
+count-set-requires : tie.Need-count-set-requires Inv-loop μ-loop
+count-set-requires c κs = search (tally-fits, subjects-used, needs)
+
+add-n : tie.Need-add-n Inv-loop μ-loop
+add-n c = omega arith
+
+loop-less : tie.Need-loop-less Inv-loop μ-loop
+loop-less c = omega arith
+
+loop-again : tie.Need-loop-again Inv-loop μ-loop
+loop-again c = search (tally-one, subjects-used)
+
+same-length : tie.Need-same-length Inv-loop μ-loop
+same-length c = search tally-length
+
+returns : tie.Need-returns Inv-loop μ-loop
+returns c = search (tally-all, subjects-used)
+
+pub count-subjects-spec : {M : Type 1} → statement M
+count-subjects-spec =
+    tie.close
+    (tie.spec
+    Inv-loop
+    μ-loop
+    clear-requires
+    loop-holds
+    permissions-under-requires
+    count-set-requires
+    add-n
+    loop-less
+    loop-again
+    same-length
+    returns)

@@ -1,0 +1,86 @@
+// The call that counts who holds each privilege on an item.
+ghost use mathlib.Core.Path.{_≡_};
+ghost use Prim.Native.Nat.{_+_, _^_, _<_};
+ghost use lib.ListN.{length, replicate};
+ghost use Rattle.model.specs.Calls.{holderCounts};
+ghost use Rattle.model.specs.Lists.{All};
+ghost use Rattle.model.specs.Lent.{tablesAt};
+ghost use Rattle.model.specs.Questions.{countHolders};
+ghost use Rattle.asking.specs.Found.{counted};
+use acceptance::open;
+use model::Answer;
+use model::Item;
+use model::Layout;
+use model::Opened;
+use model::Privileges;
+use model::SoughtGrant;
+use model::Subject;
+use model::refusal;
+use permission::decision::permissions_under;
+use sizes::positions;
+use tables::items::item_used;
+
+// Counts the subjects, the custodian among them, whose permission set without a role has a position on the item: entry n
+// of `counts` receives the number for position n. There must be an entry for each position. The result is 0.
+pub fn count_holders(image: &[u8], item: Item, counts: &mut [u32]) -> Answer
+    ensures { λ r. ⌜ r ≡ countHolders (now (image .entry)) (item .0) (now (counts .entry)) .answer ⌝ }
+    ensures { λ _. ⌜ now (counts .exit) ≡ countHolders (now (image .entry)) (item .0) (now (counts .entry)) .counts ⌝ }
+{
+    let opened = open(image);
+    let layout = match opened {
+        Opened::With(layout) => layout,
+        Opened::Refused(number) => {
+            return Answer::refused(number);
+        }
+    };
+    if !item_used(image, layout, item) {
+        return Answer::refused(refusal::UNKNOWN_ITEM);
+    }
+    if counts.len() != positions(layout) {
+        return Answer::refused(refusal::BAD_COUNTS_LENGTH);
+    }
+    count_subjects(image, layout, item, counts);
+    Answer::done(0)
+}
+
+fn count_subjects(image: &[u8], layout: Layout, item: Item, counts: &mut [u32])
+    ensures { λ _. let t = tablesAt layout (image .entry) in
+        ⌜ now (counts .exit) ≡ holderCounts t (item .0) (length (now (counts .entry))) ⌝ }
+{
+    clear(counts);
+    let table = layout.subjects;
+    let used = table.used;
+    let mut n = 0;
+    while n < used {
+        let set = permissions_under(image, layout, Subject(n), SoughtGrant::NoGrant, item);
+        count_set(set, counts);
+        n += 1;
+    }
+}
+
+fn clear(counts: &mut [u32])
+    ensures { λ _. ⌜ now (counts .exit) ≡ replicate (length (now (counts .entry))) 0 ⌝ }
+{
+    let mut n = 0;
+    while n < counts.len() {
+        counts[n] = 0;
+        n += 1;
+    }
+}
+
+// Adds 1 to the entry of each position that the set has. Past the highest one there is nothing to add.
+fn count_set(set: Privileges, counts: &mut [u32])
+    requires { ⌜ All (λ c. c + 1 < 2 ^ 32) (now counts) ⌝ }
+    ensures { λ _. ⌜ now (counts .exit) ≡ counted set (now (counts .entry)) ⌝ }
+{
+    let mut rest = set;
+    let mut n = 0;
+    while n < counts.len() {
+        if rest == 0 {
+            return;
+        }
+        counts[n] += rest % 2;
+        rest /= 2;
+        n += 1;
+    }
+}
