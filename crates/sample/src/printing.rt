@@ -21,6 +21,15 @@ pub fn print_outcome(answer: Answer, image: &[u8]) {
     print_number(b" check ", checked.number);
 }
 
+// Numbers, each behind a space.
+pub fn print_counts(counts: &[u32]) {
+    let mut n = 0;
+    while n < counts.len() {
+        print_number(b" ", counts[n]);
+        n += 1;
+    }
+}
+
 pub fn end_line() {
     io::write_all(1, b"\n");
 }

@@ -1,9 +1,11 @@
 // The calls that only ask, as they are printed: what was asked, then the number and the result.
 use super::printing::end_line;
 use super::printing::print_answer;
+use super::printing::print_counts;
 use super::printing::print_number;
 use asking::editor::find_editor;
 use asking::explanation::explain;
+use asking::holders::count_holders;
 use asking::lines::lines_of;
 use asking::lines::list_count;
 use asking::lines::list_start;
@@ -15,8 +17,8 @@ use model::Item;
 use model::Role;
 use model::Subject;
 
-// The twelve permission sets, each with its explanation, two explanations that are refused, and one case of each other call that
-// asks but `check`.
+// The twelve permission sets, each with its explanation, two explanations that are refused, the holders on each item, and one
+// case of each other call that asks but `check`.
 pub fn print_questions(image: &[u8]) {
     print_case(image, 2, 0, 2);
     print_case(image, 2, 0, 3);
@@ -32,6 +34,7 @@ pub fn print_questions(image: &[u8]) {
     print_case(image, 0, 0, 4);
     print_explanation(image, 6, 0, 2);
     print_explanation(image, 2, 0, 5);
+    print_all_holders(image);
     ask_operations(image, 4, 7);
     end_line();
     print_lines(image, 1);
@@ -93,6 +96,30 @@ fn print_explanation(image: &[u8], subject: u32, role: u32, item: u32) {
     print_number(b" everyone_set ", why.everyone_set);
     print_number(b" role_set ", why.role_set);
     print_number(b" operations ", why.operations);
+    end_line();
+}
+
+// The holders on each item, then four calls that are refused: on an item that is not in use, with one count too few, with one
+// too many, and on that item with one too few. Counts are 9 at first. Later calls are lent what the earlier ones left.
+fn print_all_holders(image: &[u8]) {
+    let mut counts = [9u32; 32];
+    print_holders(image, 1, &mut counts);
+    print_holders(image, 2, &mut counts);
+    print_holders(image, 3, &mut counts);
+    print_holders(image, 4, &mut counts);
+    print_holders(image, 5, &mut counts);
+    let mut few = [9u32; 31];
+    print_holders(image, 2, &mut few);
+    let mut many = [9u32; 33];
+    print_holders(image, 2, &mut many);
+    print_holders(image, 5, &mut few);
+}
+
+fn print_holders(image: &[u8], item: u32, counts: &mut [u32]) {
+    print_number(b"count_holders item ", item);
+    print_answer(count_holders(image, Item(item), counts));
+    io::write_all(1, b" counts");
+    print_counts(counts);
     end_line();
 }
 

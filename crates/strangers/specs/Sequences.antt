@@ -14,10 +14,11 @@ use Rattle.model.specs.Calls.{Ask, Change, callerOf, Handed}
 use Rattle.model.specs.Calls.Ask.{permissionSetOf}
 use Rattle.model.specs.Questions.{answer, Accepted, ask, act}
 
--- The calls that only read the image.
+-- The calls that only read the image. One of them writes numbers that it is lent beside the image.
 pub data Reading : Type 0 where
   asks : Ask → Reading
   explains : (subject role item : ℕ) → Reading
+  countsHolders : (item : ℕ) → (counts : List ℕ) → Reading
   showsLines : (list : ℕ) → Reading
   searchesEditor : (list : ℕ) → Reading
 
