@@ -2,10 +2,9 @@
 -- counted.
 use mathlib.Core.Bool.{Bool, false, not, cond}
 use mathlib.Core.List.{List, [], _∷_, _++_}
-use mathlib.Core.Logic.{inl, inr}
 use mathlib.Core.Path.{_≡_, refl, sym, ap, _∙_}
 use Prim.Native.Nat.{ℕ, zero, suc, _+_, _-_, _/_, _%_, _^_, _<_, _≤_}
-use native.Mathlib.Nat.{div-one, div-div-eq-div-mul, zero-div, mod-lt, pow-suc, pow-succ', add-zero, add-sub-of-le}
+use native.Mathlib.Nat.{div-one, div-div-eq-div-mul, mod-lt, pow-suc, pow-succ', add-zero, add-sub-of-le}
 use native.Mathlib.Numerals.{add-one}
 use native.Mathlib.Omega.{arith}
 use mir.Syntax.{w32}
@@ -14,7 +13,7 @@ use borrow.Author.Tests.{eq-eqb, ne-eqb}
 use lib.Dec.{eqb, lit<}
 use lib.ListN.{length, getD, set, take, drop, replicate, length-replicate, getD-replicate}
 use lib.ListN.{length-set, length-append, length-drop, take-append-drop, drop-of-length-le}
-use lib.Seq.{take-all, take-suc, drop-cons, append-snoc, set-at, getD-at, length-take-le}
+use lib.Seq.{take-suc, drop-cons, append-snoc, set-at, getD-at, length-take-le}
 use Rattle.model.specs.Lists.{howMany, ofEach, All}
 use Rattle.model.specs.WhoAndWhat.{positionsOf, has}
 use Rattle.model.specs.Image.{Tables, widthIn, itemUsed}

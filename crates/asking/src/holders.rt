@@ -43,6 +43,7 @@ pub fn count_holders(image: &[u8], item: Item, counts: &mut [u32]) -> Answer
     Answer::done(0)
 }
 
+// Counts one subject's set after the other, from the custodian's on.
 fn count_subjects(image: &[u8], layout: Layout, item: Item, counts: &mut [u32])
     ensures { λ _. let t = tablesAt layout (image .entry) in
         ⌜ now (counts .exit) ≡ holderCounts t (item .0) (length (now (counts .entry))) ⌝ }
@@ -50,11 +51,11 @@ fn count_subjects(image: &[u8], layout: Layout, item: Item, counts: &mut [u32])
     clear(counts);
     let table = layout.subjects;
     let used = table.used;
-    let mut n = 0;
-    while n < used {
-        let set = permissions_under(image, layout, Subject(n), SoughtGrant::NoGrant, item);
+    let mut subject = 0;
+    while subject < used {
+        let set = permissions_under(image, layout, Subject(subject), SoughtGrant::NoGrant, item);
         count_set(set, counts);
-        n += 1;
+        subject += 1;
     }
 }
 
@@ -74,13 +75,13 @@ fn count_set(set: Privileges, counts: &mut [u32])
     ensures { λ _. ⌜ now (counts .exit) ≡ counted set (now (counts .entry)) ⌝ }
 {
     let mut rest = set;
-    let mut n = 0;
-    while n < counts.len() {
+    let mut position = 0;
+    while position < counts.len() {
         if rest == 0 {
             return;
         }
-        counts[n] += rest % 2;
+        counts[position] += rest % 2;
         rest /= 2;
-        n += 1;
+        position += 1;
     }
 }

@@ -5,21 +5,22 @@ use mathlib.Core.List.{List, _++_}
 use mathlib.Core.Path.{_≡_, refl, sym, ap, _∙_}
 use Prim.Native.Nat.{ℕ}
 use borrow.Author.Tests.{ne-eqb}
-use lib.Dec.{eqb}
+use lib.Dec.{T, eqb}
 use lib.ListN.{length}
 use Rattle.model.specs.declared.Answer.{Answer}
 use Rattle.model.specs.declared.Explanation.{Explanation}
 use Rattle.model.specs.declared.Layout.{Layout}
 use Rattle.model.specs.declared.Opened.{Opened}
 use Rattle.model.specs.declared.Opened.the-variants.{With, Refused}
-use Rattle.model.specs.Image.{Tables, tablesBy, tables}
-use Rattle.model.specs.Permission.{explanation}
+use Rattle.model.specs.Image.{Tables, layoutOf, tablesBy, tables, subjectUsed, itemUsed}
+use Rattle.model.specs.Permission.{permissionSet, explanation}
 use Rattle.model.specs.Calls.{Ask, askResult, holderCounts}
-use Rattle.model.specs.Calls.Ask.{checkImage}
+use Rattle.model.specs.Calls.Ask.{checkImage, permissionSetOf}
 use Rattle.model.specs.Questions.{Question, firstNo, imageQuestions, askQuestions, explainQuestions, holdersQuestions, check, opened}
 use Rattle.model.specs.Questions.{answer, answered, ask, refusedExplanation, explained, explain, countHolders}
-use Rattle.laws.specs.Answers.{first-left, first-right, asked-all}
-use Rattle.laws.specs.Opens.{refused-by, opened-with, layout-with}
+use Rattle.laws.specs.Tests.{_and_}
+use Rattle.laws.specs.Answers.{first-passed, first-left, first-right, asked-all}
+use Rattle.laws.specs.Opens.{opened-yes, refused-by, opened-with, layout-with}
 
 -- Any call. Its own questions qs, which come after those of the image, depend on the tables. o is what opening the image
 -- answered.
@@ -95,6 +96,23 @@ module _ (img : List ℕ) (o : Opened) (is : o ≡ opened img) (q : Ask) (a : An
         → a ≡ ask img q
     unfolding ask
     ask-done v h f e = e ∙ result-done img o is (λ t. askQuestions t q) (λ t. askResult t q) lay case v h f
+
+-- the permission set call on an image that passes the check, for a subject and an item that are in use
+pub asked-set : (img : List ℕ) (s r i : ℕ)
+    → check img ≡ 0
+    → T (subjectUsed (tables img .subjects) s)
+    → T (itemUsed (tables img .items) i)
+    → ask img (permissionSetOf s r i) ≡ answer 0 (permissionSet (tables img) s r i)
+unfolding askQuestions askResult
+asked-set img s r i checked subject item =
+    sym
+    (ask-done img (With (layoutOf img)) (opened-yes img (layoutOf img) refl (sym checked)) (permissionSetOf s r i)
+    (answer 0 (permissionSet (tables img) s r i))
+    (layoutOf img)
+    refl
+    (permissionSet (tables img) s r i)
+    (sym (first-passed (askQuestions (tables img) (permissionSetOf s r i)) (subject and item and tt)))
+    refl refl)
 
 -- explain, whose answer is a record
 explained-refused : (n : ℕ) (e : Explanation) → eqb n 0 ≡ false → refusedExplanation n ≡ explained n e

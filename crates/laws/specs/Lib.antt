@@ -25,6 +25,8 @@ pub mod Asks
 -- law for each way in which the code returns.
 pub mod Kept
 pub mod Acts
+-- Then the counts of holders.
+pub mod Holders
 -- Then explanations, which say what decided: which lines stand in the table, and what the group search meets.
 pub mod Standing
 pub mod Nearest

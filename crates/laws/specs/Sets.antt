@@ -2,14 +2,14 @@
 use mathlib.Core.Bool.{Bool, true, false, _&&_, _||_}
 use mathlib.Core.Path.{_≡_, refl, _∙_}
 use Prim.Native.Nat.{ℕ, zero, suc, _*_, _/_, _%_, _^_, _-_, _<_}
-use native.Mathlib.Nat.{mod-eq-of-lt, mod-lt, pow-suc, mul-suc}
+use native.Mathlib.Nat.{mod-eq-of-lt, mod-lt, pow-suc, pow-succ', mul-suc, div-one, div-div-eq-div-mul}
 use native.Mathlib.Omega.{arith}
 use borrow.Author.Tests.{eq-eqb}
 use lib.Arith.{bin-ind}
 use lib.Bits.{and-step, and-shr, or-shr, and-mod, or-mod, and-mask}
 use lib.Dec.{T, eqb, lit<}
-use lib.Pow.{pow-add}
-use Rattle.model.specs.WhoAndWhat.{everything, has, _∪_, _∩_, within}
+use lib.Pow.{pow-add, pow-pos}
+use Rattle.model.specs.WhoAndWhat.{everything, positionsOf, has, _∪_, _∩_, within}
 use Rattle.laws.specs.Tests.{true-T}
 
 -- A binary digit is 0 or 1, so there are four cases for two digits.
@@ -52,10 +52,21 @@ both-within a b = true-T (within (a ∩ b) b) (eq-eqb ((a ∩ b) ∩ b) (a ∩ b
 pub and-all : (k v : ℕ) → v < 2 ^ k → v ∩ (2 ^ k - 1) ≡ v
 and-all k v h = and-mask v k ∙ mod-eq-of-lt h
 
--- a field of w bytes has 8 * w positions
-pub bytes-positions : (w : ℕ) → 256 ^ w ≡ 2 ^ (8 * w)
+pub bytes-positions : (w : ℕ) → 256 ^ w ≡ 2 ^ positionsOf w
 bytes-positions zero = refl
 bytes-positions (suc w) = rw (pow-suc, mul-suc 8 w, pow-add, bytes-positions w)
+
+-- every position below k is in the set of all k positions
+has-all : (k n : ℕ) → n < k → has n (2 ^ k - 1) ≡ true
+unfolding has
+has-all zero n h = absurd (omega arith)
+has-all (suc k) zero h = rw (pow-succ' 2 k, div-one) (eq-eqb ((2 * 2 ^ k - 1) % 2) 1 (omega (arith, pow-pos k)))
+has-all (suc k) (suc n) h =
+    let halved : (2 ^ suc k - 1) / 2 ≡ 2 ^ k - 1 = rw (pow-succ' 2 k) (omega (arith, pow-pos k)) in
+    rw (pow-succ' 2 n, ← div-div-eq-div-mul (2 ^ suc k - 1) 2 (2 ^ n), halved) (has-all k n (omega arith))
+
+pub has-everything : (w n : ℕ) → n < positionsOf w → has n (everything w) ≡ true
+has-everything w n h = rw (bytes-positions w) (has-all (positionsOf w) n h)
 
 pub within-everything : (w v : ℕ) → v < 256 ^ w → T (within v (everything w))
 within-everything w v h =

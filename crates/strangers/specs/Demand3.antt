@@ -4,19 +4,14 @@ use mathlib.Core.List.{List, [], _∷_}
 use mathlib.Core.Path.{_≡_, refl, sym, ap, _∙_}
 use Prim.Native.Nat.{ℕ}
 use lib.Dec.{T}
-use Rattle.model.specs.declared.Opened.the-variants.{With}
 use Rattle.model.specs.Lists.{All}
-use Rattle.model.specs.Image.{Tables, layoutOf, tables, subjectUsed, itemUsed}
+use Rattle.model.specs.Image.{Tables, tables, itemUsed}
 use Rattle.model.specs.Permission.{grantOf, permissionSet}
-use Rattle.model.specs.Calls.{Change, callerOf, Handed, after, askResult}
-use Rattle.model.specs.Calls.Ask.{permissionSetOf}
-use Rattle.model.specs.Questions.{questions, askQuestions, answer, ask, act, Accepted}
-use Rattle.laws.specs.Tests.{_and_}
+use Rattle.model.specs.Calls.{Change, callerOf, Handed, after}
+use Rattle.model.specs.Questions.{questions, answer, act, Accepted}
 use Rattle.laws.specs.WellFormed.{WellFormed, Passed}
-use Rattle.laws.specs.Answers.{first-passed}
 use Rattle.laws.specs.Back.{tables-well-formed}
-use Rattle.laws.specs.Opens.{opened-yes}
-use Rattle.laws.specs.Asks.{ask-done}
+use Rattle.laws.specs.Asks.{asked-set}
 use Rattle.laws.specs.Acts.{act-accepted, act-keeps}
 use Rattle.strangers.specs.Sequences.{Step, run, writing, Stranger, Claim, Demand3}
 use Rattle.strangers.specs.Sequences.Step.{changes, reads}
@@ -84,30 +79,13 @@ module _ (stop : List ℕ) (asker role document : ℕ) where
         (act-keeps img c (handed .0) accepted Kept kept (kept-after (tables img) c (writing steps) (strangers .0) claim kept))
     kept-run img (reads q ∷ steps) accepted handed strangers claim kept = kept-run img steps accepted handed strangers claim kept
 
--- the answer to a call that asks for a set on an accepted image, where the subject and the item are present
-asked-set : (img : List ℕ) (s r i : ℕ)
-    → Accepted img
-    → T (subjectUsed (tables img .subjects) s)
-    → T (itemUsed (tables img .items) i)
-    → ask img (permissionSetOf s r i) ≡ answer 0 (permissionSet (tables img) s r i)
-unfolding askQuestions askResult
-asked-set img s r i accepted subject item =
-    sym
-    (ask-done img (With (layoutOf img)) (opened-yes img (layoutOf img) refl (sym (accepted .checked))) (permissionSetOf s r i)
-    (answer 0 (permissionSet (tables img) s r i))
-    (layoutOf img)
-    refl
-    (permissionSet (tables img) s r i)
-    (sym (first-passed (askQuestions (tables img) (permissionSetOf s r i)) (subject and item and tt)))
-    refl refl)
-
 pub demand-3 : Demand3
 demand-3 start accepted first second handed-first handed-second asker role document covered =
     record {
       set-same = set-same;
-      answer-then = asked-set stop asker role document at-stop (covered .asker-present) (covered .document-present);
+      answer-then = asked-set stop asker role document (at-stop .checked) (covered .asker-present) (covered .document-present);
       answer-later =
-          asked-set later asker role document (run-accepted stop second at-stop handed-second)
+          asked-set later asker role document (run-accepted stop second at-stop handed-second .checked)
           (subject-still (tables stop) document (tables later) (kept .untouched) asker (covered .asker-present))
           (item-still (tables stop) document (tables later) (kept .untouched) document (covered .document-present))
           ∙ ap (answer 0) set-same;

@@ -8,10 +8,10 @@ use Rattle.asking.proofs.holders.count_set.Statement.{statement}
 use Rattle.asking.proofs.holders.count_set.Tie as tie
 
 abbrev Inv-loop : tie.InvT-loop
-Inv-loop set counts₀ rest₀ n₀ counts rest n = Added set counts₀ n rest counts
+Inv-loop set counts₀ rest₀ position₀ counts rest position = Added set counts₀ position rest counts
 
 abbrev μ-loop : tie.MeasureT-loop
-μ-loop set counts₀ rest₀ n₀ counts rest n = length counts - n
+μ-loop set counts₀ rest₀ position₀ counts rest position = length counts - position
 
 loop-holds : tie.Need-loop-holds Inv-loop μ-loop
 loop-holds c = search added-none
@@ -34,8 +34,8 @@ add-counts c = search added-fits
 slice-write-counts : tie.Need-slice-write-counts Inv-loop μ-loop
 slice-write-counts c = search needs
 
-add-n : tie.Need-add-n Inv-loop μ-loop
-add-n c = omega arith
+add-position : tie.Need-add-position Inv-loop μ-loop
+add-position c = omega arith
 
 loop-less : tie.Need-loop-less Inv-loop μ-loop
 loop-less c = search set-less
@@ -62,7 +62,7 @@ count-set-spec =
     slice-read-counts
     add-counts
     slice-write-counts
-    add-n
+    add-position
     loop-less
     loop-again
     same-length-2

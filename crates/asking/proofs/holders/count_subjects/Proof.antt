@@ -1,6 +1,5 @@
--- `asking::holders::count_subjects` meets its contract: in each turn of the loop, the subjects below n are counted.
-use mathlib.Core.Path.{_≡_}
-use Prim.Native.Nat.{_-_, _≤_}
+-- `asking::holders::count_subjects` meets its contract: in each turn of the loop, the subjects before this one are counted.
+use Prim.Native.Nat.{_-_}
 use lib.ListN.{length}
 use native.Mathlib.Omega.{arith}
 use borrow.Author.Needs.{needs}
@@ -11,10 +10,10 @@ use Rattle.asking.proofs.holders.count_subjects.Statement.{statement}
 use Rattle.asking.proofs.holders.count_subjects.Tie as tie
 
 abbrev Inv-loop : tie.InvT-loop
-Inv-loop image layout item counts₀ used n₀ counts n = Tally (tablesBy layout image) (item .0) (length counts₀) n counts
+Inv-loop image layout item counts₀ used subject₀ counts subject = Tally (tablesBy layout image) (item .0) (length counts₀) subject counts
 
 abbrev μ-loop : tie.MeasureT-loop
-μ-loop image layout item counts₀ used n₀ counts n = used - n
+μ-loop image layout item counts₀ used subject₀ counts subject = used - subject
 
 clear-requires : tie.Need-clear-requires Inv-loop μ-loop
 clear-requires c κs = search needs
@@ -28,8 +27,8 @@ permissions-under-requires c κs = search needs
 count-set-requires : tie.Need-count-set-requires Inv-loop μ-loop
 count-set-requires c κs = search (tally-fits, subjects-used, needs)
 
-add-n : tie.Need-add-n Inv-loop μ-loop
-add-n c = omega arith
+add-subject : tie.Need-add-subject Inv-loop μ-loop
+add-subject c = omega arith
 
 loop-less : tie.Need-loop-less Inv-loop μ-loop
 loop-less c = omega arith
@@ -53,7 +52,7 @@ count-subjects-spec =
     loop-holds
     permissions-under-requires
     count-set-requires
-    add-n
+    add-subject
     loop-less
     loop-again
     same-length
