@@ -6,7 +6,7 @@
 //! program may use only some of the calls, hence the attributes here.
 //!
 //! What makes it quick is said where it is done: in `opening` for the check, in `tree` for climbs, in
-//! `list` and `editor` for lines, in `sets` and `text` for the report.
+//! `list` and `editor` for lines, in `holders` for counts, in `sets` and `text` for the report.
 
 mod asking;
 mod changing;
