@@ -100,7 +100,7 @@ pub fn explain(
 /// dacm::set_line(&mut image, custodian, no_role, list, Kind::EVERYONE, custodian, both)?;
 /// let table = dacm::create_item(&mut image, custodian, no_role, list, Flags::NONE)?;
 ///
-/// // How many can replace it? The custodian and the fitter: the visitor may replace nothing at all.
+/// // How many can replace it? The custodian and the fitter: the visitor may not replace at all.
 /// let counts = dacm::count_holders(&image, table)?;
 /// assert_eq!(counts[0], 3, "READ is position 0");
 /// assert_eq!(counts[1], 2, "REPLACE is position 1");

@@ -103,8 +103,8 @@ refusals! {
     /// The item is not in use. The first item has number 1.
     12 UnknownItem: "the item named is not in use";
 
-    /// The slice lent for the counts does not have exactly 32 entries. In this crate
-    /// [`count_holders`](crate::count_holders) lends the right one, so no call is refused with this.
+    /// The slice lent for the counts does not have exactly 32 entries. The crate's own
+    /// [`count_holders`](crate::count_holders) lends 32, so it is never refused with this.
     21 BadCountsLength: "the counts do not have exactly 32 entries";
 
     /// The list is not in use, or is an item without the flag [`IS_LIST`](crate::Flags::IS_LIST).

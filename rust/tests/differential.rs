@@ -133,8 +133,8 @@ enum Share {
     All,
 }
 
-/// Unless the call is refused, each count is that of the permission sets which have the position. Adds
-/// each position with its share.
+/// Unless the call is refused, each count is that of the permission sets which have the position.
+/// Adds each position with its share.
 fn compare_counts(
     tables: &Tables,
     item: u32,

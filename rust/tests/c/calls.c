@@ -135,6 +135,54 @@ static void explain(void)
     unexplained(dacm_explain(image, LENGTH, second, no_role, none), DACM_UNKNOWN_ITEM);
 }
 
+enum { MORE = DACM_POSITIONS + 1 };
+
+static uint32_t counts[MORE];
+
+/* Lends entries that hold no number of subjects. */
+static dacm_answer count_holders(size_t length, dacm_item item, size_t entries)
+{
+    for (size_t n = 0; n < MORE; n++)
+        counts[n] = DACM_ALL;
+    return dacm_count_holders(image, length, item, counts, entries);
+}
+
+/* Every entry but the last, which is not lent, is written. Those that are not handed over here are 1. */
+static void counted(dacm_item item, uint32_t read, uint32_t replace, uint32_t discard, uint32_t annotate)
+{
+    dacm_answer answer = count_holders(LENGTH, item, DACM_POSITIONS);
+    expect(answer.number == DACM_DONE && answer.result == 0);
+    expect(counts[0] == read && counts[1] == replace && counts[2] == discard && counts[3] == annotate);
+    for (size_t n = 4; n < DACM_POSITIONS; n++)
+        expect(counts[n] == 1);
+    expect(counts[DACM_POSITIONS] == DACM_ALL);
+    expect(unchanged());
+}
+
+/* A refused call leaves every entry as it was. */
+static void uncounted(dacm_answer answer, uint32_t number)
+{
+    refused(answer, number);
+    for (size_t n = 0; n < MORE; n++)
+        expect(counts[n] == DACM_ALL);
+}
+
+static void count(void)
+{
+    fresh();
+    counted(list, 6, 3, 2, 2);
+    counted(document, 6, 2, 1, 2);
+    counted(unlisted, 1, 1, 1, 1);
+
+    uncounted(count_holders(35, nothing, 0), DACM_BAD_LENGTH);
+    uncounted(count_holders(LENGTH - 1, nothing, 0), DACM_BAD_LAYOUT);
+    uncounted(count_holders(LENGTH, nothing, 0), DACM_UNKNOWN_ITEM);
+    uncounted(count_holders(LENGTH, none, DACM_POSITIONS), DACM_UNKNOWN_ITEM);
+    uncounted(count_holders(LENGTH, document, 0), DACM_BAD_COUNTS_LENGTH);
+    uncounted(count_holders(LENGTH, document, DACM_POSITIONS - 1), DACM_BAD_COUNTS_LENGTH);
+    uncounted(count_holders(LENGTH, document, DACM_POSITIONS + 1), DACM_BAD_COUNTS_LENGTH);
+}
+
 static void ask(void)
 {
     fresh();
@@ -236,6 +284,7 @@ int main(void)
 {
     ask();
     explain();
+    count();
     change_subjects_and_grants();
     change_lines();
     change_items();

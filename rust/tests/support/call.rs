@@ -60,8 +60,8 @@ impl From<Explanation> for Outcome {
     }
 }
 
-/// The entries lent to count holders, as they are after the call. Behind those that are lent there are
-/// more, which the call must not touch.
+/// The entries lent to count holders, as they are after the call. Behind those that are lent there
+/// are more, which the call must not touch.
 #[derive(Clone, Debug, PartialEq, Eq)]
 pub struct Counts {
     entries: [u32; Counts::MOST],

@@ -4,8 +4,8 @@ use super::call::{Counts, Outcome};
 use super::tables::get_field;
 use dacm::{Item, Privileges, Role, Subject};
 
-/// A refused call has left its entries as they were. Otherwise each counts at least the custodian and
-/// at most every subject. The crate, which lends entries of its own, answers the same.
+/// A refused call has left its entries as they were. Otherwise each counts at least the custodian
+/// and at most every subject. The crate, which lends entries of its own, answers the same.
 pub fn assert_counts_hold(image: &[u8], item: u32, outcome: &Outcome, case: &str) {
     let counts = outcome.counts.as_ref().expect("entries were lent");
     let is_count = |count: &u32| (1..=subject_count(image)).contains(count);
