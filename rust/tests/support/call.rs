@@ -88,7 +88,9 @@ impl Counts {
     }
 }
 
-/// Lends so many entries to a call, and adds to its outcome what they hold afterwards.
+/// Lends so many entries to a call, and adds to its outcome what they hold afterwards. It is not
+/// inlined, so that in the benchmark no other call pays for the entries.
+#[inline(never)]
 pub fn with_counts<A: Into<Outcome>>(
     entries: usize,
     call: impl FnOnce(&mut [u32]) -> A,
