@@ -135,27 +135,33 @@ static void explain(void)
     unexplained(dacm_explain(image, LENGTH, second, no_role, none), DACM_UNKNOWN_ITEM);
 }
 
-enum { MORE = DACM_POSITIONS + 1 };
+enum { ENTRIES = DACM_POSITIONS + 1 };
 
-static uint32_t counts[MORE];
+static uint32_t counts[ENTRIES];
 
-/* Lends entries that hold no number of subjects. */
+/* Before the call every entry holds what is no number of subjects. */
 static dacm_answer count_holders(size_t length, dacm_item item, size_t entries)
 {
-    for (size_t n = 0; n < MORE; n++)
+    for (size_t n = 0; n < ENTRIES; n++)
         counts[n] = DACM_ALL;
     return dacm_count_holders(image, length, item, counts, entries);
 }
 
-/* Every entry but the last, which is not lent, is written. Those that are not handed over here are 1. */
+static int entries_are(uint32_t count, size_t from, size_t to)
+{
+    for (size_t n = from; n < to; n++)
+        if (counts[n] != count)
+            return 0;
+    return 1;
+}
+
+/* At the other positions the custodian is the only holder. The last entry is not lent. */
 static void counted(dacm_item item, uint32_t read, uint32_t replace, uint32_t discard, uint32_t annotate)
 {
-    dacm_answer answer = count_holders(LENGTH, item, DACM_POSITIONS);
-    expect(answer.number == DACM_DONE && answer.result == 0);
+    accepted(count_holders(LENGTH, item, DACM_POSITIONS), 0);
     expect(counts[0] == read && counts[1] == replace && counts[2] == discard && counts[3] == annotate);
-    for (size_t n = 4; n < DACM_POSITIONS; n++)
-        expect(counts[n] == 1);
-    expect(counts[DACM_POSITIONS] == DACM_ALL);
+    expect(entries_are(1, 4, DACM_POSITIONS));
+    expect(entries_are(DACM_ALL, DACM_POSITIONS, ENTRIES));
     expect(unchanged());
 }
 
@@ -163,8 +169,7 @@ static void counted(dacm_item item, uint32_t read, uint32_t replace, uint32_t di
 static void uncounted(dacm_answer answer, uint32_t number)
 {
     refused(answer, number);
-    for (size_t n = 0; n < MORE; n++)
-        expect(counts[n] == DACM_ALL);
+    expect(entries_are(DACM_ALL, 0, ENTRIES));
 }
 
 static void count(void)
