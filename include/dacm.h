@@ -2,15 +2,17 @@
  * The access tables of a document library: who may read, replace or discard which document.
  *
  * The tables are kept in one image: 36 to 65,536 bytes that the host lends to every call, whatever they hold. Every
- * call takes any bytes and any numbers. It asks its questions in the order of their numbers, which are those of
- * document 01. If all are answered yes, the call answers number 0 and its result. Otherwise it answers the refusal,
- * which is the number of the first question answered no, and result 0; the numbers have names below, and README.md says
- * what to look at. A refused call leaves every byte of the image as it was. A call that takes the image as const never
- * writes it.
+ * call takes any bytes and any numbers. It asks its questions in the order in which their numbers are listed below; the
+ * numbers are those of documents 01 and 02. If all are answered yes, the call answers number 0 and its result.
+ * Otherwise it answers the refusal, which is the number of the first question answered no, and result 0; README.md says
+ * what to look at. A refused call leaves every byte of the image as it was, and every entry of the counts. A call that
+ * takes the image as const never writes it.
  *
- * The host must ensure two things. `image` points to `length` bytes and is not a null pointer, not even where `length`
- * is 0. And nobody else writes these bytes during a call. Calls keep nothing between them. They may run at the same
- * time on different images, and calls that take the image as const also on the same image.
+ * The host must ensure three things. `image` points to `length` bytes and is not a null pointer, not even where
+ * `length` is 0. The same holds of `counts` and its `entries` numbers, which are aligned and share no byte with the
+ * image. And nobody else writes the image during a call, or reads or writes the counts. Calls keep nothing between
+ * them. They may run at the same time on different images, and calls that take the image as const also on the same
+ * image, each with counts of its own.
  *
  * A call uses at most DACM_STACK_BYTES of stack, whatever the image holds. The search for a group's line is recursive,
  * with one level for each group above the subject. The longest chain of groups that fits into an image has some 5,450.
@@ -28,9 +30,9 @@ extern "C" {
 
 /* The version of this header. */
 #define DACM_VERSION_MAJOR 0
-#define DACM_VERSION_MINOR 2
+#define DACM_VERSION_MINOR 3
 #define DACM_VERSION_PATCH 0
-#define DACM_VERSION "0.2.0"
+#define DACM_VERSION "0.3.0"
 
 /* The stack that a call may need. */
 #define DACM_STACK_BYTES 524288
@@ -43,7 +45,7 @@ typedef struct { uint32_t number; } dacm_item;    /* items are numbered from 1; 
 /* What a call answers: number 0 and its result, or the refusal and result 0. A call that names no result has 0. */
 typedef struct { uint32_t number; uint32_t result; } dacm_answer;
 
-/* The numbers that a call answers. A newer archive may have more. */
+/* The numbers that a call answers, in the order of the questions. A newer archive may have more. */
 #define DACM_DONE                UINT32_C(0)  /* no refusal: the call did its job */
 #define DACM_BAD_LENGTH          UINT32_C(1)  /* the image is shorter than 36 or longer than 65,536 bytes */
 #define DACM_BAD_LAYOUT          UINT32_C(2)  /* the header does not fit the image */
@@ -55,6 +57,7 @@ typedef struct { uint32_t number; uint32_t result; } dacm_answer;
 #define DACM_UNKNOWN_CALLER      UINT32_C(10) /* the caller or asker is not in use */
 #define DACM_UNKNOWN_SUBJECT     UINT32_C(11) /* another subject is not in use */
 #define DACM_UNKNOWN_ITEM        UINT32_C(12) /* the item is not in use */
+#define DACM_BAD_COUNTS_LENGTH   UINT32_C(21) /* the counts do not have exactly DACM_POSITIONS entries */
 #define DACM_NOT_A_LIST          UINT32_C(13) /* the list is not in use, or is no access list */
 #define DACM_OUT_OF_RANGE        UINT32_C(14) /* the role, kind, subject or flags are out of range */
 #define DACM_NOT_PERMITTED       UINT32_C(15) /* the caller may not do this */
@@ -73,6 +76,9 @@ typedef struct { uint32_t number; uint32_t result; } dacm_answer;
 #define DACM_DEFINE_SUBJECTS UINT32_C(0x20)
 #define DACM_EDIT_LIST       UINT32_C(0x40)
 #define DACM_ALL             UINT32_C(0xffffffff)
+
+/* How many positions a set has. */
+#define DACM_POSITIONS 32
 
 /* The kinds of a line. Lines for the owner and for everyone have subject 0. */
 #define DACM_ITSELF   UINT32_C(0)
@@ -121,6 +127,12 @@ dacm_answer dacm_permission_set(const uint8_t *image, size_t length, dacm_subjec
 /* Which rule decided that permission set, and what makes it up. It is refused where dacm_permission_set is. */
 dacm_explanation dacm_explain(const uint8_t *image, size_t length, dacm_subject subject, dacm_role role,
                               dacm_item item);
+
+/*
+ * How many subjects have each privilege in their permission set on an item, without claiming a role. counts[n] receives
+ * the number for position n, whatever it held before. The custodian is counted. `entries` must be DACM_POSITIONS.
+ */
+dacm_answer dacm_count_holders(const uint8_t *image, size_t length, dacm_item item, uint32_t *counts, size_t entries);
 
 /* Result: how many lines a list has. They are consecutive in the image, 16 bytes each. */
 dacm_answer dacm_list_count(const uint8_t *image, size_t length, dacm_item list);

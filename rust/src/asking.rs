@@ -80,6 +80,45 @@ pub fn explain(
     ffi::explain(image, subject, role, item).result()
 }
 
+/// How many subjects have each privilege in their [`permission_set`] on an item, without claiming a
+/// role. The count for position n is at index n.
+///
+/// The custodian has every privilege and is counted, so no count is 0.
+///
+/// ```
+/// use dacm::{Capacities, Flags, Item, Kind, Privileges, Refusal, Role, Subject};
+///
+/// # fn main() -> Result<(), Refusal> {
+/// # let (custodian, no_role) = (Subject::CUSTODIAN, Role::NONE);
+/// # let capacities = Capacities { subjects: 3, grants: 0, lines: 2, items: 2 };
+/// # let mut image = capacities.empty_image()?;
+/// // A fitter and a visitor, and a table that the line for everyone lets them read and replace.
+/// let (read, both) = (Privileges::READ, Privileges::READ | Privileges::REPLACE);
+/// dacm::define_subject(&mut image, custodian, no_role, custodian, both)?;
+/// dacm::define_subject(&mut image, custodian, no_role, custodian, read)?;
+/// let list = dacm::create_item(&mut image, custodian, no_role, Item::NONE, Flags::IS_LIST)?;
+/// dacm::set_line(&mut image, custodian, no_role, list, Kind::EVERYONE, custodian, both)?;
+/// let table = dacm::create_item(&mut image, custodian, no_role, list, Flags::NONE)?;
+///
+/// // How many can replace it? The custodian and the fitter: the visitor may not replace at all.
+/// let counts = dacm::count_holders(&image, table)?;
+/// assert_eq!(counts[0], 3, "READ is position 0");
+/// assert_eq!(counts[1], 2, "REPLACE is position 1");
+/// assert_eq!(counts[2..], [1; 30], "the custodian alone");
+///
+/// // What somebody other than the custodian holds too: 3 can read, 2 can replace.
+/// for (position, count) in counts.into_iter().enumerate().filter(|(_, count)| *count > 1) {
+///     println!("{count} can {}", Privileges(1 << position));
+/// }
+/// # Ok(())
+/// # }
+/// ```
+pub fn count_holders(image: &[u8], item: Item) -> Result<[u32; Privileges::POSITIONS], Refusal> {
+    let mut counts = [0; Privileges::POSITIONS];
+    ffi::count_holders(image, item, &mut counts).done()?;
+    Ok(counts)
+}
+
 /// How many lines a list has.
 pub fn list_count(image: &[u8], list: Item) -> Result<u32, Refusal> {
     ffi::list_count(image, list).result()

@@ -97,6 +97,28 @@ calls_that_ask! {
     fn find_editor = dacm_find_editor(list: Item) -> Answer;
 }
 
+extern "C" {
+    fn dacm_count_holders(
+        image: *const u8,
+        length: usize,
+        item: Item,
+        counts: *mut u32,
+        entries: usize,
+    ) -> Answer;
+}
+
+pub(crate) fn count_holders(
+    image: &[u8],
+    item: Item,
+    counts: &mut [u32; Privileges::POSITIONS],
+) -> Answer {
+    let (entries, length) = (counts.len(), image.len());
+    // SAFETY: for the image as for the calls that ask. Pointer and length of the counts are those
+    // of one exclusive array, so they are aligned, share no byte with the image, and nobody else
+    // reads or writes them. The function is proved to write only inside them.
+    unsafe { dacm_count_holders(image.as_ptr(), length, item, counts.as_mut_ptr(), entries) }
+}
+
 calls_that_change! {
     fn define_subject = dacm_define_subject(
         caller: Subject, role: Role, parent: Subject, privileges: Privileges

@@ -46,6 +46,10 @@
 //! let explanation = dacm::explain(&image, technician, no_role, document)?;
 //! assert_eq!(explanation.rule, Rule::GroupLine(engineer));
 //!
+//! // How many may read it? The custodian and the technician: nobody is below herself.
+//! let counts = dacm::count_holders(&image, document)?;
+//! assert_eq!(counts[0], 2); // READ is position 0
+//!
 //! // The technician may not edit the list, and a refused call changes nothing.
 //! let before = image.clone();
 //! let tried = dacm::set_line(&mut image, technician, no_role, list, Kind::ITSELF, technician, all);
@@ -98,7 +102,7 @@ mod rows;
 mod tables;
 
 pub use asking::{
-    check, explain, find_editor, lines_of, list_count, operation_set, permission_set,
+    check, count_holders, explain, find_editor, lines_of, list_count, operation_set, permission_set,
 };
 pub use capacities::Capacities;
 pub use changing::{

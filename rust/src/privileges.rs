@@ -42,6 +42,9 @@ impl Privileges {
     /// Every privilege, those of the host's own too.
     pub const ALL: Privileges = Privileges(!0);
 
+    /// How many positions a set has.
+    pub const POSITIONS: usize = u32::BITS as usize;
+
     /// The constants' names in plain words, by position.
     const NAMES: [&'static str; 7] = [
         "read",

@@ -6,8 +6,9 @@ macro_rules! refusals {
     ($($(#[$documentation:meta])+ $number:literal $name:ident: $sentence:literal;)+) => {
         /// Why a call was refused: the first of its questions that was answered no.
         ///
-        /// Every call asks its questions in the order of these numbers; none asks them all. A
-        /// refused call has left every byte of the image as it was.
+        /// Every call asks its questions in the order in which they are listed here, which is not
+        /// that of their numbers; none asks them all. A refused call has left every byte of the
+        /// image as it was.
         ///
         /// Refusals are ordered as their questions are. Those without a name come last.
         #[non_exhaustive]
@@ -102,6 +103,10 @@ refusals! {
     /// The item is not in use. The first item has number 1.
     12 UnknownItem: "the item named is not in use";
 
+    /// The slice lent for the counts does not have exactly 32 entries. The crate's own
+    /// [`count_holders`](crate::count_holders) lends 32, so it is never refused with this.
+    21 BadCountsLength: "the counts do not have exactly 32 entries";
+
     /// The list is not in use, or is an item without the flag [`IS_LIST`](crate::Flags::IS_LIST).
     /// Only [`bind`](crate::bind) and [`create_item`](crate::create_item) accept
     /// [`Item::NONE`](crate::Item::NONE) for it.
@@ -149,19 +154,21 @@ impl Error for Refusal {}
 #[cfg(test)]
 mod tests {
     use super::Refusal;
+    use std::collections::BTreeSet;
     use std::format;
     use std::string::ToString;
     use std::vec::Vec;
 
+    /// In the order of the questions.
     fn listed() -> impl Iterator<Item = u32> {
-        (1..=7).chain(10..=20)
+        (1..=7).chain(10..=12).chain([21]).chain(13..=20)
     }
 
     #[test]
     fn the_numbers_with_a_name_are_those_of_the_list() {
         let has_name = |number: &u32| Refusal::from_number(*number) != Refusal::Other(*number);
-        let named: Vec<u32> = (0..=100).filter(has_name).collect();
-        assert_eq!(named, listed().collect::<Vec<u32>>());
+        let named: BTreeSet<u32> = (0..=100).filter(has_name).collect();
+        assert_eq!(named, listed().collect());
     }
 
     #[test]

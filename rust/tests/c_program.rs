@@ -89,10 +89,9 @@ fn installed(prefix: &Path) -> Vec<String> {
 fn the_names_of_the_header() {
     let header = header();
     let numbers = macros(&header).filter_map(|(name, value)| Some((name.into(), number(value)?)));
-    let refusals = (1..=7).chain(10..=20).map(|number| {
-        let name = format!("{:?}", Refusal::from_number(number));
-        (upper_snake(&name), number)
-    });
+    let refusals = (1..=7)
+        .chain(10..=21)
+        .map(|number| (name_in_c(Refusal::from_number(number)), number));
     let others = [
         ("DONE", 0),
         ("READ", Privileges::READ.0),
@@ -122,6 +121,27 @@ fn the_names_of_the_header() {
     let in_header: BTreeMap<String, u32> = numbers.collect();
     let in_crate: BTreeMap<String, u32> = refusals.chain(others).collect();
     assert_eq!(in_header, in_crate);
+}
+
+/// The header lists the refusals in the order of the questions.
+#[test]
+fn the_order_of_the_header() {
+    let header = header();
+    let numbers = macros(&header).filter_map(|(name, value)| Some((name, number(value)?)));
+    let listed: Vec<Refusal> = numbers
+        .map(|(name, number)| (name, Refusal::from_number(number)))
+        .filter(|(name, refusal)| *name == name_in_c(*refusal))
+        .map(|(_, refusal)| refusal)
+        .collect();
+    assert_eq!(listed.len(), 19);
+    assert!(listed.is_sorted(), "{listed:?}");
+}
+
+#[test]
+fn the_positions_of_the_header() {
+    let header = header();
+    let macros: BTreeMap<&str, &str> = macros(&header).collect();
+    assert_eq!(macros["POSITIONS"], Privileges::POSITIONS.to_string());
 }
 
 #[test]
@@ -158,9 +178,9 @@ fn number(value: &str) -> Option<u32> {
 }
 
 /// `NOT_A_LIST` for `NotAList`.
-fn upper_snake(name: &str) -> String {
+fn name_in_c(refusal: Refusal) -> String {
     let mut snake = String::new();
-    for letter in name.chars() {
+    for letter in format!("{refusal:?}").chars() {
         if letter.is_uppercase() && !snake.is_empty() {
             snake.push('_');
         }

@@ -2,12 +2,13 @@
 //! beside them.
 //!
 //! Compared are the number, the result, the slice that `lines_of` shows, every field of an
-//! explanation, and every byte of the image afterwards. Of the editor search's result, the twin only
-//! checks that the subject may be named.
+//! explanation, every count, and every byte of the image afterwards. Of the editor search's result,
+//! the twin only checks that the subject may be named.
 //!
 //! The test of accepted images demands at its end that each call was accepted, and refused with each
 //! of its own questions. The test of damaged images demands that each call was refused with each of
-//! the questions 1 to 7. The test of explanations demands that there was one of each sort.
+//! the questions 1 to 7. The test of explanations demands that there was one of each sort, and the
+//! test of counts that at each position one, several and all subjects were counted.
 
 mod support;
 mod twin;
@@ -15,13 +16,14 @@ mod yardstick;
 
 use std::collections::BTreeSet;
 use support::boundary::{boundary_images, telling_tables, Boundary};
-use support::call::Call;
-use support::choose::{Chooser, ROLES};
+use support::call::{Call, Counts};
+use support::choose::{Chooser, ENTRIES, ROLES};
 use support::compare::compare;
 use support::coverage::Coverage;
 use support::damage::{damage, telling_values};
 use support::examples::Examples;
 use support::explanation::Question;
+use support::holders::counts_of_sets;
 use support::libraries::Size;
 use support::random::Random;
 use support::rounds;
@@ -87,8 +89,88 @@ fn every_question(tables: &Tables) -> Vec<Question> {
 fn refusal(tables: &Tables, question: &Question) -> u32 {
     if question.subject as usize >= tables.subjects.used() {
         10
-    } else if !(1..=tables.items.used()).contains(&(question.item as usize)) {
+    } else if !has_item(tables, question.item) {
         12
+    } else {
+        0
+    }
+}
+
+fn has_item(tables: &Tables, item: u32) -> bool {
+    (1..=tables.items.used()).contains(&(item as usize))
+}
+
+/// Everything that count holders can be asked about small libraries: each item and numbers that are
+/// not in use, with each number of entries. And one item of some larger ones.
+#[test]
+fn counts() {
+    let shares = &mut BTreeSet::new();
+    for seed in 0..rounds(2_000) {
+        let random = &mut Random::new(seed);
+        let tables = Size::small(random).library(random);
+        let seed = format!("a small library, seed {seed}");
+        for item in 0..=tables.items.used() as u32 + 1 {
+            for entries in ENTRIES {
+                compare_counts(&tables, item, entries, &seed, shares);
+            }
+        }
+    }
+    for seed in 0..rounds(10) {
+        let random = &mut Random::new(seed);
+        let tables = Size::larger(random).library(random);
+        let item = (tables.items.used() as u32).div_ceil(2);
+        let seed = format!("a larger library, seed {seed}");
+        compare_counts(&tables, item, Counts::POSITIONS, &seed, shares);
+    }
+    assert_eq!(shares.len(), 3 * Counts::POSITIONS, "{shares:?}");
+}
+
+/// Who was counted at a position.
+#[derive(Clone, Copy, Debug, PartialEq, Eq, PartialOrd, Ord)]
+enum Share {
+    One,
+    Several,
+    All,
+}
+
+/// Unless the call is refused, each count is that of the permission sets which have the position.
+/// Adds each position with its share.
+fn compare_counts(
+    tables: &Tables,
+    item: u32,
+    entries: usize,
+    seed: &str,
+    shares: &mut BTreeSet<(usize, Share)>,
+) {
+    let mut image = tables.image();
+    let call = Call::CountHolders { item, entries };
+    let outcome = compare(&mut image, &call, seed);
+    let number = refusal_of_counts(tables, item, entries);
+    assert_eq!(outcome.number, number, "{seed}: {call:?}");
+    if number != 0 {
+        return;
+    }
+    let counts = outcome.counts.expect("entries were lent");
+    assert_eq!(
+        counts.lent(),
+        counts_of_sets(&image, item),
+        "{seed}: {call:?}"
+    );
+    let subjects = tables.subjects.used() as u32;
+    let share = |&count: &u32| match count {
+        1 => Share::One,
+        count if count < subjects => Share::Several,
+        _ => Share::All,
+    };
+    shares.extend(counts.lent().iter().map(share).enumerate());
+}
+
+/// The refusal on an accepted image: question 12 is asked before question 21.
+fn refusal_of_counts(tables: &Tables, item: u32, entries: usize) -> u32 {
+    if !has_item(tables, item) {
+        12
+    } else if entries != Counts::POSITIONS {
+        21
     } else {
         0
     }

@@ -6,7 +6,7 @@ mod twin;
 mod yardstick;
 
 use support::boundary::custodian_only;
-use support::call::{Call, Outcome};
+use support::call::{library, Call, Counts, Outcome};
 use support::compare::compare;
 use support::explanation::{
     Explanation, Question, CUSTODIAN, GROUP_LINE, NOTHING_FOUND, OWNER_LINE, OWN_LINE,
@@ -193,6 +193,99 @@ fn explanations_refused() {
     let unknown_item = Explanation::refused(12);
     assert_answered(&sample(), [2, 0, 0], unknown_item);
     assert_answered(&sample(), [2, 7, 5], unknown_item);
+}
+
+/// How many may read, replace, discard and annotate each item. The custodian is one of them. At the
+/// other positions there is nobody else, because no line gives these. By role 7 subject 4 could
+/// replace items 2 and 3, but here it is not claimed.
+#[test]
+fn the_counts_of_the_four_items() {
+    let counted = [
+        // Everyone's line lets all read. Subject 1 has the owner line, 2 the group line of 1, and 4
+        // its own line. Subject 5 is below 1 too, but its own line gives nothing.
+        (1, [6, 3, 2, 2]),
+        // Subject 2 has the owner line, and 4 its own. 2 may not discard at all, and 1 is not below
+        // itself.
+        (2, [6, 2, 1, 2]),
+        // Subject 2 has the group line of 1. 4 has the owner line now, which does not let it
+        // annotate, and it may not replace or discard at all.
+        (3, [6, 2, 1, 1]),
+        // There is no list.
+        (4, [1, 1, 1, 1]),
+    ];
+    for (item, first) in counted {
+        assert_counts(&sample(), item, with_custodian(&first));
+    }
+}
+
+/// Counts that begin with these. At the other positions the custodian is the only holder.
+fn with_custodian(first: &[u32]) -> [u32; Counts::POSITIONS] {
+    let mut counts = [1; Counts::POSITIONS];
+    counts[..first.len()].copy_from_slice(first);
+    counts
+}
+
+/// The highest privilege of the host's own: subject 3 has it, and everyone's line gives it.
+#[test]
+fn the_count_of_position_31() {
+    let mut tables = sample();
+    tables.subjects.rows[3] = [0, 73 | 1 << 31, 0];
+    tables.lines.rows[4] = [1, EVERYONE, 0, 1 | 1 << 31];
+    let mut expected = with_custodian(&[6, 2, 1, 2]);
+    expected[31] = 2;
+    assert_counts(&tables, 2, expected);
+}
+
+fn assert_counts(tables: &Tables, item: u32, expected: [u32; Counts::POSITIONS]) {
+    let outcome = count_holders(&mut tables.image(), item, Counts::POSITIONS);
+    assert_eq!((outcome.number, outcome.result), accepted(0));
+    let counts = outcome.counts.expect("entries were lent");
+    assert_eq!(counts.lent(), expected, "item {item}");
+}
+
+/// Makes the call on all three, which must agree.
+fn count_holders(image: &mut [u8], item: u32, entries: usize) -> Outcome {
+    compare(image, &Call::CountHolders { item, entries }, "no seed")
+}
+
+/// The item is asked about before the entries. These stay as they were.
+#[test]
+fn counts_refused() {
+    let refusals = [
+        (0, 32, 12),
+        (5, 32, 12),
+        (0, 31, 12),
+        (5, 0, 12),
+        (2, 31, 21),
+        (2, 33, 21),
+    ];
+    for (item, entries, number) in refusals {
+        let outcome = count_holders(&mut sample().image(), item, entries);
+        assert_eq!((outcome.number, outcome.result), refused(number));
+        let counts = outcome.counts.expect("entries were lent");
+        assert_eq!(counts.lent(), vec![Counts::BEFORE; entries]);
+    }
+    let cut = &mut sample().image()[..315];
+    assert_eq!(count_holders(cut, 0, 31).number, 2);
+}
+
+/// Whatever the entries hold, and only where the call is not refused.
+#[test]
+fn counts_are_overwritten() {
+    let image = &sample().image();
+    assert_overwritten(|item, counts| library::count_holders(image, item, counts).into());
+    assert_overwritten(|item, counts| twin::count_holders(image, item, counts).into());
+    assert_overwritten(|item, counts| yardstick::count_holders(image, item, counts).into());
+}
+
+fn assert_overwritten(count: impl Fn(u32, &mut [u32]) -> Outcome) {
+    let mut counts = [u32::MAX; Counts::POSITIONS];
+    assert_eq!(count(1, &mut counts).number, 0);
+    assert_eq!(counts, with_custodian(&[6, 3, 2, 2]));
+    assert_eq!(count(0, &mut counts).number, 12);
+    assert_eq!(counts, with_custodian(&[6, 3, 2, 2]));
+    assert_eq!(count(4, &mut counts).number, 0);
+    assert_eq!(counts, with_custodian(&[]));
 }
 
 #[test]

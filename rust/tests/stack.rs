@@ -52,16 +52,18 @@ fn on_promised_stack<T: Send + 'static>(work: impl FnOnce() -> T + Send + 'stati
         .expect("the calls return")
 }
 
-/// What the calls that search groups answer for the deepest subject, under no role.
-fn answers(mut image: Vec<u8>, deepest: Subject) -> [Result<u32, Refusal>; 4] {
+/// What the calls that search groups answer, for the deepest subject where they name one, under no
+/// role. Of the counts it is how many may read.
+fn answers(mut image: Vec<u8>, deepest: Subject) -> [Result<u32, Refusal>; 5] {
     let list = Item(1);
     let set = dacm::permission_set(&image, deepest, Role::NONE, list).map(|set| set.0);
+    let readers = dacm::count_holders(&image, list).map(|counts| counts[0]);
     let editor = dacm::find_editor(&image, list).map(|subject| subject.0);
     let (own, none, other) = (Kind::ITSELF, Role::NONE, Subject(1));
     let read = Privileges::READ;
     let line = dacm::set_line(&mut image, deepest, none, list, own, other, read).map(|()| 0);
     let gone = dacm::remove_line(&mut image, deepest, none, list, own, other).map(|()| 0);
-    [set, editor, line, gone]
+    [set, readers, editor, line, gone]
 }
 
 /// The explanation for the deepest subject, under no role.
@@ -83,8 +85,8 @@ fn no_group_line_at_all() {
     let explanation = explanation(image.clone(), deepest);
     assert_eq!(explanation.rule, Rule::NothingFound);
     let answers = on_promised_stack(move || answers(image, deepest));
-    let refused = Err(Refusal::NotPermitted);
-    assert_eq!(answers, [Ok(0), Err(Refusal::NoEditor), refused, refused]);
+    let (no_editor, refused) = (Err(Refusal::NoEditor), Err(Refusal::NotPermitted));
+    assert_eq!(answers, [Ok(0), Ok(1), no_editor, refused, refused]);
 }
 
 #[test]
@@ -98,7 +100,8 @@ fn a_group_line_at_the_top() {
     assert_eq!(explanation.rule, Rule::GroupLine(Subject::CUSTODIAN));
     assert_eq!(explanation.rule_set, Privileges(EDIT_LIST | READ));
     let answers = on_promised_stack(move || answers(image, deepest));
-    assert_eq!(answers, [Ok(EDIT_LIST | READ), Ok(1), Ok(0), Ok(0)]);
+    let (set, everybody) = (EDIT_LIST | READ, deepest.0 + 1);
+    assert_eq!(answers, [Ok(set), Ok(everybody), Ok(1), Ok(0), Ok(0)]);
 }
 
 /// Under a role there are two searches: one for the asker, one for the role's grantor.

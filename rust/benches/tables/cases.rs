@@ -1,6 +1,6 @@
 //! What is measured: the images, and the calls on each.
 
-use crate::call::Call;
+use crate::call::{Call, Counts};
 use crate::images;
 use crate::sample::{sample, ITSELF};
 use crate::tables::Tables;
@@ -54,6 +54,7 @@ fn sample_case() -> Case {
             plain("check", Call::Check),
             plain("permission set, under a role", set_of(4, 7, 2)),
             plain("explain, under a role", explanation_of(4, 7, 2)),
+            plain("count holders", holders_on(2)),
             plain("editor search, there is none", editor_of(1)),
             plain("set line, overwrites", overwriting(&tables)),
             plain("set line, inserts", inserting(&tables)),
@@ -87,6 +88,7 @@ fn mixed_case() -> Case {
                 "explain, the role counts",
                 explanation_of(deputy, deputy_role, item),
             ),
+            searching("count holders", holders_on(item)),
             searching("editor search, the last subject", editor_of(list)),
             looking_up("set line, overwrites", overwriting(&tables)),
             looking_up("set line, inserts", inserting(&tables)),
@@ -115,6 +117,7 @@ fn chain_case() -> Case {
                 explanation_of(deepest / 2, NO_ROLE, 2),
             ),
             plain("explain, the deepest", explanation_of(deepest, NO_ROLE, 2)),
+            plain("count holders", holders_on(2)),
             plain("editor search, the last subject", editor_of(1)),
             plain("set line, overwrites", overwriting(&tables)),
             plain("set line, inserts", inserting(&tables)),
@@ -135,6 +138,7 @@ fn lines_case() -> Case {
             plain("check", Call::Check),
             looking_up("permission set", set_of(150, NO_ROLE, item)),
             looking_up("explain", explanation_of(150, NO_ROLE, item)),
+            searching("count holders", holders_on(item)),
             searching("editor search, there is none", editor_of(list)),
             looking_up("set line, overwrites", overwriting(&tables)),
             looking_up("set line, inserts", inserting(&tables)),
@@ -185,6 +189,11 @@ fn explanation_of(subject: u32, role: u32, item: u32) -> Call {
         role,
         item,
     }
+}
+
+fn holders_on(item: u32) -> Call {
+    let entries = Counts::POSITIONS;
+    Call::CountHolders { item, entries }
 }
 
 fn editor_of(list: u32) -> Call {

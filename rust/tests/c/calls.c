@@ -135,6 +135,59 @@ static void explain(void)
     unexplained(dacm_explain(image, LENGTH, second, no_role, none), DACM_UNKNOWN_ITEM);
 }
 
+enum { ENTRIES = DACM_POSITIONS + 1 };
+
+static uint32_t counts[ENTRIES];
+
+/* Before the call every entry holds what is no number of subjects. */
+static dacm_answer count_holders(size_t length, dacm_item item, size_t entries)
+{
+    for (size_t n = 0; n < ENTRIES; n++)
+        counts[n] = DACM_ALL;
+    return dacm_count_holders(image, length, item, counts, entries);
+}
+
+static int entries_are(uint32_t count, size_t from, size_t to)
+{
+    for (size_t n = from; n < to; n++)
+        if (counts[n] != count)
+            return 0;
+    return 1;
+}
+
+/* At the other positions the custodian is the only holder. The last entry is not lent. */
+static void counted(dacm_item item, uint32_t read, uint32_t replace, uint32_t discard, uint32_t annotate)
+{
+    accepted(count_holders(LENGTH, item, DACM_POSITIONS), 0);
+    expect(counts[0] == read && counts[1] == replace && counts[2] == discard && counts[3] == annotate);
+    expect(entries_are(1, 4, DACM_POSITIONS));
+    expect(entries_are(DACM_ALL, DACM_POSITIONS, ENTRIES));
+    expect(unchanged());
+}
+
+/* A refused call leaves every entry as it was. */
+static void uncounted(dacm_answer answer, uint32_t number)
+{
+    refused(answer, number);
+    expect(entries_are(DACM_ALL, 0, ENTRIES));
+}
+
+static void count(void)
+{
+    fresh();
+    counted(list, 6, 3, 2, 2);
+    counted(document, 6, 2, 1, 2);
+    counted(unlisted, 1, 1, 1, 1);
+
+    uncounted(count_holders(35, nothing, 0), DACM_BAD_LENGTH);
+    uncounted(count_holders(LENGTH - 1, nothing, 0), DACM_BAD_LAYOUT);
+    uncounted(count_holders(LENGTH, nothing, 0), DACM_UNKNOWN_ITEM);
+    uncounted(count_holders(LENGTH, none, DACM_POSITIONS), DACM_UNKNOWN_ITEM);
+    uncounted(count_holders(LENGTH, document, 0), DACM_BAD_COUNTS_LENGTH);
+    uncounted(count_holders(LENGTH, document, DACM_POSITIONS - 1), DACM_BAD_COUNTS_LENGTH);
+    uncounted(count_holders(LENGTH, document, DACM_POSITIONS + 1), DACM_BAD_COUNTS_LENGTH);
+}
+
 static void ask(void)
 {
     fresh();
@@ -236,6 +289,7 @@ int main(void)
 {
     ask();
     explain();
+    count();
     change_subjects_and_grants();
     change_lines();
     change_items();

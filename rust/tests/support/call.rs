@@ -14,6 +14,7 @@ pub enum Call {
     OperationSet { subject: u32, role: u32 },
     PermissionSet { subject: u32, role: u32, item: u32 },
     Explain { subject: u32, role: u32, item: u32 },
+    CountHolders { item: u32, entries: usize },
     ListCount { list: u32 },
     LinesOf { list: u32 },
     FindEditor { list: u32 },
@@ -27,14 +28,15 @@ pub enum Call {
     HandOver { caller: u32, item: u32, owner: u32 },
 }
 
-/// What a call answered. Only the lines of a list have a slice of the image that is not empty, and
-/// only explain has an explanation, also where it is refused.
+/// What a call answered. Only the lines of a list have a slice of the image that is not empty. Only
+/// explain has an explanation, and only count holders has counts, also where they are refused.
 #[derive(Clone, Debug, PartialEq, Eq)]
 pub struct Outcome {
     pub number: u32,
     pub result: u32,
     pub slice: Range<usize>,
     pub explanation: Option<Explanation>,
+    pub counts: Option<Counts>,
 }
 
 impl Outcome {
@@ -44,6 +46,7 @@ impl Outcome {
             result,
             slice: 0..0,
             explanation: None,
+            counts: None,
         }
     }
 }
@@ -54,6 +57,52 @@ impl From<Explanation> for Outcome {
             explanation: Some(explanation),
             ..Outcome::new(explanation.number, 0)
         }
+    }
+}
+
+/// The entries lent to count holders, as they are after the call. Behind those that are lent there
+/// are more, which the call must not touch.
+#[derive(Clone, Debug, PartialEq, Eq)]
+pub struct Counts {
+    entries: [u32; Counts::MOST],
+    lent: usize,
+}
+
+impl Counts {
+    /// How many entries the call demands.
+    pub const POSITIONS: usize = 32;
+
+    /// More than a test lends.
+    const MOST: usize = 65;
+
+    /// What every entry holds before the call: more than there are subjects in any image.
+    pub const BEFORE: u32 = 0xa5a5_a5a5;
+
+    pub fn lent(&self) -> &[u32] {
+        &self.entries[..self.lent]
+    }
+
+    /// Does every entry hold what it held before the call?
+    pub fn are_untouched(&self) -> bool {
+        self.entries == [Counts::BEFORE; Counts::MOST]
+    }
+}
+
+/// Lends so many entries to a call, and adds to its outcome what they hold afterwards. It is not
+/// inlined, so that in the benchmark no other call pays for the entries.
+#[inline(never)]
+pub fn with_counts<A: Into<Outcome>>(
+    entries: usize,
+    call: impl FnOnce(&mut [u32]) -> A,
+) -> Outcome {
+    let mut counts = Counts {
+        entries: [Counts::BEFORE; Counts::MOST],
+        lent: entries,
+    };
+    let answer = call(&mut counts.entries[..entries]);
+    Outcome {
+        counts: Some(counts),
+        ..answer.into()
     }
 }
 
@@ -101,6 +150,8 @@ macro_rules! made_on {
                 $module::permission_set(image, subject, role, item).into(),
             Call::Explain { subject, role, item } =>
                 $module::explain(image, subject, role, item).into(),
+            Call::CountHolders { item, entries } =>
+                with_counts(entries, |counts| $module::count_holders(image, item, counts)),
             Call::ListCount { list } =>
                 $module::list_count(image, list).into(),
             Call::LinesOf { list } =>
@@ -128,12 +179,13 @@ macro_rules! made_on {
 }
 
 impl Call {
-    pub const NAMES: [&'static str; 15] = [
+    pub const NAMES: [&'static str; 16] = [
         // Those that ask.
         "check",
         "operation_set",
         "permission_set",
         "explain",
+        "count_holders",
         "list_count",
         "lines_of",
         "find_editor",
@@ -151,7 +203,7 @@ impl Call {
     ];
 
     /// The first of the names above whose call writes the image.
-    pub const FIRST_WRITING: usize = 7;
+    pub const FIRST_WRITING: usize = 8;
 
     /// Which of the names above is the call's.
     fn index(&self) -> usize {
@@ -160,17 +212,18 @@ impl Call {
             Call::OperationSet { .. } => 1,
             Call::PermissionSet { .. } => 2,
             Call::Explain { .. } => 3,
-            Call::ListCount { .. } => 4,
-            Call::LinesOf { .. } => 5,
-            Call::FindEditor { .. } => 6,
-            Call::DefineSubject { .. } => 7,
-            Call::SetGrant { .. } => 8,
-            Call::RemoveGrant { .. } => 9,
-            Call::SetLine { .. } => 10,
-            Call::RemoveLine { .. } => 11,
-            Call::CreateItem { .. } => 12,
-            Call::Bind { .. } => 13,
-            Call::HandOver { .. } => 14,
+            Call::CountHolders { .. } => 4,
+            Call::ListCount { .. } => 5,
+            Call::LinesOf { .. } => 6,
+            Call::FindEditor { .. } => 7,
+            Call::DefineSubject { .. } => 8,
+            Call::SetGrant { .. } => 9,
+            Call::RemoveGrant { .. } => 10,
+            Call::SetLine { .. } => 11,
+            Call::RemoveLine { .. } => 12,
+            Call::CreateItem { .. } => 13,
+            Call::Bind { .. } => 14,
+            Call::HandOver { .. } => 15,
         }
     }
 
@@ -194,6 +247,8 @@ impl Call {
                 with_result(dacm::permission_set(image, Subject(subject), Role(role), Item(item)).map(|set| set.0)),
             Call::Explain { subject, role, item } =>
                 Explanation::from(dacm::explain(image, Subject(subject), Role(role), Item(item))).into(),
+            Call::CountHolders { item, entries } =>
+                with_counts(entries, |counts| library::count_holders(image, item, counts)),
             Call::ListCount { list } =>
                 with_result(dacm::list_count(image, Item(list))),
             Call::LinesOf { list } =>
@@ -254,14 +309,51 @@ fn done(answer: Result<(), Refusal>) -> Outcome {
     with_result(answer.map(|()| 0))
 }
 
-extern "C" {
-    fn dacm_list_start(image: *const u8, length: usize, list: Item) -> usize;
+/// Functions of the header, for what the crate does not show.
+pub mod library {
+    use super::Outcome;
+    use dacm::Item;
+
+    #[repr(C)]
+    pub struct Answer {
+        number: u32,
+        result: u32,
+    }
+
+    impl From<Answer> for Outcome {
+        fn from(answer: Answer) -> Outcome {
+            Outcome::new(answer.number, answer.result)
+        }
+    }
+
+    extern "C" {
+        fn dacm_list_start(image: *const u8, length: usize, list: Item) -> usize;
+        fn dacm_count_holders(
+            image: *const u8,
+            length: usize,
+            item: Item,
+            counts: *mut u32,
+            entries: usize,
+        ) -> Answer;
+    }
+
+    /// Offset 0 also where the call is refused.
+    pub fn list_start(image: &[u8], list: u32) -> usize {
+        // SAFETY: pointer and length are those of one slice.
+        unsafe { dacm_list_start(image.as_ptr(), image.len(), Item(list)) }
+    }
+
+    /// With any number of entries. The crate always lends as many as there are positions.
+    pub fn count_holders(image: &[u8], item: u32, counts: &mut [u32]) -> Answer {
+        let (length, entries) = (image.len(), counts.len());
+        let (image, counts) = (image.as_ptr(), counts.as_mut_ptr());
+        // SAFETY: both pointers and lengths are those of one slice, and one of these is exclusive.
+        unsafe { dacm_count_holders(image, length, Item(item), counts, entries) }
+    }
 }
 
 fn lines_of_library(image: &[u8], list: u32) -> Outcome {
-    // The header promises offset 0 if the call is refused. The crate does not show that offset, so
-    // it is asked for directly. SAFETY: pointer and length are those of one slice.
-    let start = unsafe { dacm_list_start(image.as_ptr(), image.len(), Item(list)) };
+    let start = library::list_start(image, list);
     match dacm::lines_of(image, Item(list)) {
         Ok(lines) => {
             let shown = lines.as_ptr() as usize - image.as_ptr() as usize;

@@ -1,13 +1,16 @@
 //! Random arguments for a call: mostly numbers that mean something in the image, at times numbers at
 //! the limits or beyond them.
 
-use super::call::Call;
+use super::call::{Call, Counts};
 use super::random::Random;
 use super::sample::{EVERYONE, OWNER};
 use super::tables::Tables;
 
 /// The roles that random grants use: few, so that calls often name a granted one.
 pub const ROLES: [u32; 4] = [1, 2, 7, u32::MAX];
+
+/// How many entries are lent for counts: as many as there must be, and numbers near and far.
+pub const ENTRIES: [usize; 6] = [0, 1, 31, Counts::POSITIONS, 33, 64];
 
 /// Chooses arguments for calls on an image with these tables.
 pub struct Chooser<'a> {
@@ -34,6 +37,7 @@ impl Chooser<'_> {
             "operation_set" => self.operation_set(),
             "permission_set" => self.permission_set(),
             "explain" => self.explain(),
+            "count_holders" => self.count_holders(),
             "list_count" => Call::ListCount { list: self.list() },
             "lines_of" => Call::LinesOf { list: self.list() },
             "find_editor" => Call::FindEditor { list: self.list() },
@@ -71,6 +75,19 @@ impl Chooser<'_> {
             subject,
             role,
             item,
+        }
+    }
+
+    /// Mostly with as many entries as there must be.
+    fn count_holders(&mut self) -> Call {
+        let entries = if self.random.one_in(4) {
+            self.random.pick(&ENTRIES)
+        } else {
+            Counts::POSITIONS
+        };
+        Call::CountHolders {
+            item: self.item(),
+            entries,
         }
     }
 

@@ -3,11 +3,13 @@
 
 use super::call::{Call, Outcome};
 use super::explanation::Question;
+use super::holders::assert_counts_hold;
 use crate::twin;
 
 /// Makes the call on the library, on the twin and on the yardstick. All must answer the same and
 /// leave the same bytes. If the call is refused or only asks, these must be the bytes from before.
-/// An explanation must also hold of the image. Afterwards the image is as the call left it.
+/// An explanation and counts must also hold of the image. Afterwards the image is as the call left
+/// it.
 pub fn compare(image: &mut [u8], call: &Call, seed: &str) -> Outcome {
     compare_made_by(image, call, seed, |image| call.on_library(image))
 }
@@ -40,6 +42,9 @@ pub fn compare_made_by(
     }
     if let (Some(question), Some(explanation)) = (Question::of(call), &ours.explanation) {
         question.assert_explained(&before, explanation, seed);
+    }
+    if let Call::CountHolders { item, .. } = *call {
+        assert_counts_hold(&before, item, &ours, seed);
     }
     ours
 }

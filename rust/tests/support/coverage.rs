@@ -11,6 +11,7 @@ const QUESTIONS: [&[u32]; Call::NAMES.len()] = [
     /* operation_set  */ &[10],
     /* permission_set */ &[10, 12],
     /* explain        */ &[10, 12],
+    /* count_holders  */ &[12, 21],
     /* list_count     */ &[13],
     /* lines_of       */ &[13],
     /* find_editor    */ &[13, 20],

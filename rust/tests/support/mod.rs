@@ -13,6 +13,7 @@ pub mod coverage;
 pub mod damage;
 pub mod examples;
 pub mod explanation;
+pub mod holders;
 pub mod libraries;
 pub mod program;
 pub mod random;

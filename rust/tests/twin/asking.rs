@@ -2,6 +2,7 @@
 
 use super::image::Image;
 use super::permission;
+use super::rows::{NO_ROLE, POSITIONS};
 use super::table::LINES;
 use super::{answer, ask, Answer, Explanation, Refused};
 use std::ops::Range;
@@ -41,6 +42,24 @@ pub fn explain(image: &[u8], subject: u32, role: u32, item: u32) -> Explanation 
     explained().unwrap_or_else(|Refused(number)| Explanation {
         number,
         ..Explanation::default()
+    })
+}
+
+/// Entry n of the counts receives how many subjects hold the privilege at position n
+/// on the item without a role. The custodian is one of them.
+pub fn count_holders(image: &[u8], item: u32, counts: &mut [u32]) -> Answer {
+    answer(|| {
+        let image = Image::open(image)?;
+        let item = image.item(item).ok_or(Refused(12))?;
+        ask(21, counts.len() == POSITIONS)?;
+        counts.fill(0);
+        for subject in 0..image.subject_count() {
+            let set = permission::permission_set(&image, subject, NO_ROLE, item);
+            for (position, count) in counts.iter_mut().enumerate() {
+                *count += set >> position & 1;
+            }
+        }
+        Ok(0)
     })
 }
 

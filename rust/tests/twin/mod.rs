@@ -6,8 +6,9 @@
 //! program may use only some of the calls, hence the attributes here.
 //!
 //! Every call opens the image first, which asks questions 1 to 7. Then it asks
-//! its own questions in the paper's order. The calls that change the image write
-//! only after their last question, so a refused one leaves every byte as it was.
+//! its own questions in the paper's order. The calls that change the image, or the
+//! counts that they are lent, write only after their last question. So a refused one
+//! leaves everything as it was.
 
 mod asking;
 mod changing;
@@ -20,7 +21,8 @@ mod table;
 
 #[allow(unused_imports)]
 pub use asking::{
-    check, explain, find_editor, is_editor, list_count, list_start, operation_set, permission_set,
+    check, count_holders, explain, find_editor, is_editor, list_count, list_start, operation_set,
+    permission_set,
 };
 #[allow(unused_imports)]
 pub use changing::{

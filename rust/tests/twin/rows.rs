@@ -13,6 +13,9 @@ pub const ALL: u32 = u32::MAX;
 pub const NO_ROLE: u32 = 0;
 pub const NO_LIST: u32 = 0;
 
+/// How many positions a privilege set has.
+pub const POSITIONS: usize = 32;
+
 /// Kinds of lines, in their sorted order.
 pub const ITSELF: u32 = 0;
 pub const GROUP: u32 = 1;

@@ -1,6 +1,7 @@
 //! The calls that ask.
 
 use super::editor;
+use super::holders;
 use super::opening::open;
 use super::permission;
 use super::rows::LineRow;
@@ -35,6 +36,17 @@ pub fn explain(image: &[u8], subject: u32, role: u32, item: u32) -> Explanation 
         Question::Caller.ask(tables.has_subject(subject))?;
         let item = tables.item(item).ok_or(Question::Item)?;
         Ok(permission::explain(&tables, subject, role, item))
+    })
+}
+
+/// How many subjects hold each privilege on the item, without a role.
+pub fn count_holders(image: &[u8], item: u32, counts: &mut [u32]) -> Answer {
+    Answer::to(|| {
+        let tables = open(image)?;
+        let item = tables.item(item).ok_or(Question::Item)?;
+        let counts = counts.try_into().map_err(|_| Question::Counts)?;
+        holders::count(&tables, item, counts);
+        Ok(0)
     })
 }
 

@@ -6,11 +6,12 @@
 //! program may use only some of the calls, hence the attributes here.
 //!
 //! What makes it quick is said where it is done: in `opening` for the check, in `tree` for climbs, in
-//! `list` and `editor` for lines, in `sets` and `text` for the report.
+//! `list` and `editor` for lines, in `holders` for counts, in `sets` and `text` for the report.
 
 mod asking;
 mod changing;
 mod editor;
+mod holders;
 mod list;
 mod opening;
 mod permission;
@@ -24,7 +25,8 @@ mod writing;
 
 #[allow(unused_imports)]
 pub use asking::{
-    check, explain, find_editor, list_count, list_start, operation_set, permission_set,
+    check, count_holders, explain, find_editor, list_count, list_start, operation_set,
+    permission_set,
 };
 #[allow(unused_imports)]
 pub use changing::{
@@ -84,7 +86,7 @@ impl Explanation {
     }
 }
 
-/// The paper's questions, by their numbers.
+/// The paper's questions in their order, by their numbers.
 #[derive(Clone, Copy)]
 enum Question {
     Length = 1,
@@ -97,6 +99,7 @@ enum Question {
     Caller = 10,
     OtherSubjects = 11,
     Item = 12,
+    Counts = 21,
     List = 13,
     Range = 14,
     Right = 15,

@@ -14,6 +14,9 @@ pub const NO_ROLE: u32 = 0;
 pub const NO_LIST: u32 = 0;
 pub const ALL: u32 = u32::MAX;
 
+/// How many positions a privilege set has.
+pub const POSITIONS: usize = 32;
+
 /// Positions 4, 5 and 6 of a privilege set.
 pub const CREATE_ITEMS: u32 = 1 << 4;
 pub const DEFINE_SUBJECTS: u32 = 1 << 5;
