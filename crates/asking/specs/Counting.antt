@@ -1,6 +1,6 @@
 -- The loops of the count: counts are overwritten one after the other, a set is added to them, and one subject after the other is
 -- counted.
-use mathlib.Core.Bool.{Bool, false, not, cond}
+use mathlib.Core.Bool.{cond}
 use mathlib.Core.List.{List, [], _∷_, _++_}
 use mathlib.Core.Path.{_≡_, refl, sym, ap, _∙_}
 use Prim.Native.Nat.{ℕ, zero, suc, _+_, _-_, _/_, _%_, _^_, _<_, _≤_}
@@ -9,19 +9,16 @@ use native.Mathlib.Numerals.{add-one}
 use native.Mathlib.Omega.{arith}
 use mir.Syntax.{w32}
 use mir.Val.{Fits}
-use borrow.Author.Tests.{eq-eqb, ne-eqb}
 use lib.Dec.{eqb, lit<}
 use lib.ListN.{length, getD, set, take, drop, replicate, length-replicate, getD-replicate}
 use lib.ListN.{length-set, length-append, length-drop, take-append-drop, drop-of-length-le}
 use lib.Seq.{take-suc, drop-cons, append-snoc, set-at, getD-at, length-take-le}
 use Rattle.model.specs.Lists.{howMany, ofEach, All}
-use Rattle.model.specs.WhoAndWhat.{positionsOf, has}
-use Rattle.model.specs.Image.{Tables, widthIn, itemUsed}
+use Rattle.model.specs.WhoAndWhat.{has}
+use Rattle.model.specs.Image.{Tables}
 use Rattle.model.specs.Permission.{permissionSet}
 use Rattle.model.specs.Calls.{holders, holderCounts}
-use Rattle.model.specs.Questions.{firstNo, holdersQuestions}
 use Rattle.laws.specs.Tests.{All-at}
-use Rattle.laws.specs.Answers.{asked-yes, tested-no, tested-yes, asked-all}
 use Rattle.laws.specs.Counts.{how-many-most, each-count, each-same, each-all, each-zero}
 use Rattle.asking.specs.Found.{counted}
 
@@ -222,13 +219,3 @@ module _ (t : Tables) (i : ℕ) where
       tally-all m e h =
           let all : s ≡ length (t .subjects) = omega (arith, tally .not-past) in
           rw (all, e) at (tally .counts-below)
-
--- The questions of the call: k counts are lent, and a privilege set has p positions. b says whether the item is in use.
-module _ (t : Tables) (i k p : ℕ) (all : p ≡ positionsOf (widthIn t)) (b : Bool) (said : b ≡ itemUsed (t .items) i) (used : not b ≡ false) where
-  pub wrong-length : (k ≡ p → ⊥) → 21 ≡ firstNo (holdersQuestions t i k)
-  unfolding holdersQuestions
-  wrong-length h = asked-yes 12 _ _ b said 21 used (tested-no 21 _ [] (ne-eqb k (positionsOf (widthIn t)) (λ e. h (e ∙ sym all))))
-
-  pub right-length : k ≡ p → 0 ≡ firstNo (holdersQuestions t i k)
-  unfolding holdersQuestions
-  right-length h = asked-yes 12 _ _ b said 0 used (tested-yes 21 _ [] 0 (eq-eqb k (positionsOf (widthIn t)) (h ∙ all)) asked-all)

@@ -1,9 +1,12 @@
 // The call that counts who holds each privilege on an item.
 ghost use mathlib.Core.Path.{_≡_};
 ghost use Prim.Native.Nat.{_+_, _^_, _<_};
+ghost use lib.Dec.{eqb};
 ghost use lib.ListN.{length, replicate};
-ghost use Rattle.model.specs.Calls.{holderCounts};
 ghost use Rattle.model.specs.Lists.{All};
+ghost use Rattle.model.specs.WhoAndWhat.{positionsOf};
+ghost use Rattle.model.specs.Image.{widthOf};
+ghost use Rattle.model.specs.Calls.{holderCounts};
 ghost use Rattle.model.specs.Lent.{tablesAt};
 ghost use Rattle.model.specs.Questions.{countHolders};
 ghost use Rattle.asking.specs.Found.{counted};
@@ -36,11 +39,18 @@ pub fn count_holders(image: &[u8], item: Item, counts: &mut [u32]) -> Answer
     if !item_used(image, layout, item) {
         return Answer::refused(refusal::UNKNOWN_ITEM);
     }
-    if counts.len() != positions(layout) {
+    if !has_every_position(counts.len(), layout) {
         return Answer::refused(refusal::BAD_COUNTS_LENGTH);
     }
     count_subjects(image, layout, item, counts);
     Answer::done(0)
+}
+
+// Whether there are as many entries as positions.
+fn has_every_position(entries: usize, layout: Layout) -> bool
+    ensures { λ r. ⌜ r ≡ eqb entries (positionsOf (widthOf layout)) ⌝ }
+{
+    entries == positions(layout)
 }
 
 // Counts one subject's set after the other, from the custodian's on.

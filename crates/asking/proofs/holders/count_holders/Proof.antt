@@ -1,10 +1,9 @@
 -- `asking::holders::count_holders` meets its contract: the questions in their order, and then the counts.
 use borrow.Author.Needs.{needs}
-use Rattle.laws.specs.Answers.{asked-no}
+use Rattle.laws.specs.Answers.{asked-no, asked-yes, asked-all}
 use Rattle.laws.specs.Opens.{refused-some}
 use Rattle.laws.specs.Asks.{count-image, count-no, count-done, count-also, counts-kept, counts-left}
 use Rattle.model.specs.Questions.{holdersQuestions}
-use Rattle.asking.specs.Counting.{wrong-length, right-length}
 use Rattle.asking.proofs.holders.count_holders.Statement.{statement}
 use Rattle.asking.proofs.holders.count_holders.Tie as tie
 
@@ -33,14 +32,15 @@ returns-2 : tie.Need-returns-2
 unfolding holdersQuestions
 returns-2 c = count-also _ _ _ _ _ (search (count-no, asked-no)) (λ h. search counts-kept)
 
-positions-requires : tie.Need-positions-requires
-positions-requires c κs = search needs
+has-every-position-requires : tie.Need-has-every-position-requires
+has-every-position-requires c κs = search needs
 
 refused-requires-3 : tie.Need-refused-requires-3
 refused-requires-3 c κs = search needs
 
 returns-3 : tie.Need-returns-3
-returns-3 c = count-also _ _ _ _ _ (search (count-no, wrong-length)) (λ h. search counts-kept)
+unfolding holdersQuestions
+returns-3 c = count-also _ _ _ _ _ (search (count-no, asked-yes, asked-no)) (λ h. search counts-kept)
 
 count-subjects-requires : tie.Need-count-subjects-requires
 count-subjects-requires c κs = search needs
@@ -52,7 +52,8 @@ same-length : tie.Need-same-length
 same-length c = search needs
 
 returns-4 : tie.Need-returns-4
-returns-4 c = count-also _ _ _ _ _ (search (count-done, right-length)) (λ h. search counts-left)
+unfolding holdersQuestions
+returns-4 c = count-also _ _ _ _ _ (search (count-done, asked-yes, asked-all)) (λ h. search counts-left)
 
 pub count-holders-spec : {M : Type 1} → statement M
 count-holders-spec =
@@ -66,7 +67,7 @@ count-holders-spec =
     item-used-requires
     refused-requires-2
     returns-2
-    positions-requires
+    has-every-position-requires
     refused-requires-3
     returns-3
     count-subjects-requires
