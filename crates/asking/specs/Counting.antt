@@ -4,7 +4,7 @@ use mathlib.Core.Bool.{cond}
 use mathlib.Core.List.{List, [], _∷_, _++_}
 use mathlib.Core.Path.{_≡_, refl, sym, ap, _∙_}
 use Prim.Native.Nat.{ℕ, zero, suc, _+_, _-_, _/_, _%_, _^_, _<_, _≤_}
-use native.Mathlib.Nat.{div-one, div-div-eq-div-mul, mod-lt, pow-suc, pow-succ', add-zero, add-sub-of-le}
+use native.Mathlib.Nat.{div-one, div-div-eq-div-mul, mod-lt, pow-suc, add-zero, add-sub-of-le}
 use native.Mathlib.Numerals.{add-one}
 use native.Mathlib.Omega.{arith}
 use mir.Syntax.{w32}
@@ -20,6 +20,7 @@ use Rattle.model.specs.Permission.{permissionSet}
 use Rattle.model.specs.Calls.{holders, holderCounts}
 use Rattle.laws.specs.Tests.{All-at}
 use Rattle.laws.specs.Counts.{how-many-most, each-count, each-same, each-all, each-zero}
+use Rattle.laws.specs.Sets.{lowest-away}
 use Rattle.asking.specs.Found.{counted}
 
 -- every turn of the loops over counts leaves fewer entries to do
@@ -97,14 +98,11 @@ unfolding counted
 counted-length p [] = refl
 counted-length p (c ∷ cs) = ap suc (counted-length (p / 2) cs)
 
-half-first : (p n : ℕ) → p / 2 / 2 ^ n ≡ p / 2 ^ suc n
-half-first p n = rw (pow-succ' 2 n) (div-div-eq-div-mul p 2 (2 ^ n))
-
 counted-at : (p : ℕ) (cs : List ℕ) (n : ℕ) → n < length cs → getD (counted p cs) n 0 ≡ getD cs n 0 + p / 2 ^ n % 2
 unfolding counted
 counted-at p [] n h = absurd (omega arith)
 counted-at p (c ∷ cs) zero h = rw (div-one p)
-counted-at p (c ∷ cs) (suc n) h = rw (← half-first p n) (counted-at (p / 2) cs n (omega arith))
+counted-at p (c ∷ cs) (suc n) h = rw (← lowest-away p n) (counted-at (p / 2) cs n (omega arith))
 
 -- past the highest position of p nothing is added
 counted-past : (p : ℕ) (cs : List ℕ) (n : ℕ) → p / 2 ^ n ≡ 0 → drop n (counted p cs) ≡ drop n cs
@@ -119,7 +117,7 @@ counted-past p (c ∷ cs) zero h = go p (sym (div-one p) ∙ h)
 
     go : (p : ℕ) → p ≡ 0 → counted p (c ∷ cs) ≡ c ∷ cs
     go p z = rw z (none (c ∷ cs))
-counted-past p (c ∷ cs) (suc n) h = counted-past (p / 2) cs n (half-first p n ∙ h)
+counted-past p (c ∷ cs) (suc n) h = counted-past (p / 2) cs n (lowest-away p n ∙ h)
 
 -- The loop that adds p: `rest` is what is left of p after n positions.
 module _ (p : ℕ) (old : List ℕ) where
@@ -171,10 +169,8 @@ counted-each : (p : ℕ) (f : ℕ → ℕ) (k : ℕ) → counted p (ofEach f k) 
 unfolding counted ofEach has
 counted-each p f zero = refl
 counted-each p f (suc k) =
-    let first : f 0 + p % 2 ≡ cond (eqb (p / 2 ^ 0 % 2) 1) (suc (f 0)) (f 0) = rw (div-one p) (one-more (p % 2) (f 0) (mod-lt p (lit< tt))) in
-    rw (first, counted-each (p / 2) (λ n. f (suc n)) k)
-    (ap (λ (r : List ℕ). cond (eqb (p / 2 ^ 0 % 2) 1) (suc (f 0)) (f 0) ∷ r)
-    (each-same _ _ k (λ n. rw (half-first p n))))
+    rw (one-more (p % 2) (f 0) (mod-lt p (lit< tt)), div-one p, counted-each (p / 2) (λ n. f (suc n)) k)
+    (ap (λ (r : List ℕ). cond (eqb (p % 2) 1) (suc (f 0)) (f 0) ∷ r) (each-same _ _ k (λ n. rw (lowest-away p n))))
 
 -- The loop over the subjects: cs are the counts for k positions, of the subjects below s.
 module _ (t : Tables) (i : ℕ) where
@@ -200,17 +196,13 @@ module _ (t : Tables) (i : ℕ) where
       pub tally-fits : s < u → u < 2 ^ 32 → All (λ c. c + 1 < 2 ^ 32) cs
       tally-fits h fit =
           rw (tally .counts-below)
-          (each-all (λ c. c + 1 < 2 ^ 32) (below s) k
-          (λ n. omega (arith, how-many-most (λ s. has n (permissionSet t s 0 i)) s)))
+          (each-all (λ c. c + 1 < 2 ^ 32) (below s) k (λ n. omega (arith, how-many-most (λ s. has n (permissionSet t s 0 i)) s)))
 
       pub tally-one : (p : ℕ) (next : List ℕ) → s < u → p ≡ permissionSet t s 0 i → next ≡ counted p cs → Tally k (s + 1) next
       unfolding howMany
       tally-one p next h e f =
           record {
-            counts-below =
-                f
-                ∙ rw (tally .counts-below, e, add-one s)
-                (counted-each (permissionSet t s 0 i) (below s) k);
+            counts-below = f ∙ rw (tally .counts-below, e, add-one s) (counted-each (permissionSet t s 0 i) (below s) k);
             not-past = omega arith;
           }
 

@@ -56,6 +56,10 @@ pub bytes-positions : (w : ℕ) → 256 ^ w ≡ 2 ^ positionsOf w
 bytes-positions zero = refl
 bytes-positions (suc w) = rw (pow-suc, mul-suc 8 w, pow-add, bytes-positions w)
 
+-- without its lowest position, a set has each higher one a position lower
+pub lowest-away : (p n : ℕ) → p / 2 / 2 ^ n ≡ p / 2 ^ suc n
+lowest-away p n = rw (pow-succ' 2 n) (div-div-eq-div-mul p 2 (2 ^ n))
+
 -- every position below k is in the set of all k positions
 has-all : (k n : ℕ) → n < k → has n (2 ^ k - 1) ≡ true
 unfolding has
@@ -63,7 +67,7 @@ has-all zero n h = absurd (omega arith)
 has-all (suc k) zero h = rw (pow-succ' 2 k, div-one) (eq-eqb ((2 * 2 ^ k - 1) % 2) 1 (omega (arith, pow-pos k)))
 has-all (suc k) (suc n) h =
     let halved : (2 ^ suc k - 1) / 2 ≡ 2 ^ k - 1 = rw (pow-succ' 2 k) (omega (arith, pow-pos k)) in
-    rw (pow-succ' 2 n, ← div-div-eq-div-mul (2 ^ suc k - 1) 2 (2 ^ n), halved) (has-all k n (omega arith))
+    rw (← lowest-away (2 ^ suc k - 1) n, halved) (has-all k n (omega arith))
 
 pub has-everything : (w n : ℕ) → n < positionsOf w → has n (everything w) ≡ true
 has-everything w n h = rw (bytes-positions w) (has-all (positionsOf w) n h)
