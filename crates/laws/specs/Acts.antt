@@ -20,9 +20,8 @@ use Rattle.model.specs.Image.{Tables, tablesBy, tables, encode}
 use Rattle.model.specs.Calls.{Change, Handed, after, changeResult}
 use Rattle.model.specs.Calls.Change.{defineSubject, setGrant, removeGrant, setLine, removeLine, createItem, bind, handOver}
 use Rattle.model.specs.Questions.{imageQuestions, questions, firstNo, answer, answered, check, opened, Accepted, act}
-use Rattle.laws.specs.Tests.{All-left, All-right}
 use Rattle.laws.specs.WellFormed.{WellFormed, fitting, Passed}
-use Rattle.laws.specs.Answers.{numbered, first-passed, passed-first}
+use Rattle.laws.specs.Answers.{numbered, call-checked, call-passed}
 use Rattle.laws.specs.Asks.{result-image, result-no, result-done}
 use Rattle.laws.specs.Kept.{well-formed-after}
 use Rattle.laws.specs.Back.{tables-well-formed}
@@ -43,30 +42,26 @@ unfolding act
 done-leaves img c done = rw done
 
 -- no call has a question with the number 0
-all-numbered : (img : List ℕ) (c : Change) → T (numbered (imageQuestions img ++ questions (tables img) c))
-unfolding imageQuestions questions
-all-numbered img (defineSubject c r p v) = tt
-all-numbered img (setGrant c s r d v) = tt
-all-numbered img (removeGrant c s r) = tt
-all-numbered img (setLine c r a k s v) = tt
-all-numbered img (removeLine c r a k s) = tt
-all-numbered img (createItem c r a f) = tt
-all-numbered img (bind c i a) = tt
-all-numbered img (handOver c i o) = tt
+all-numbered : (t : Tables) (c : Change) → T (numbered (questions t c))
+unfolding questions
+all-numbered t (defineSubject c r p v) = tt
+all-numbered t (setGrant c s r d v) = tt
+all-numbered t (removeGrant c s r) = tt
+all-numbered t (setLine c r a k s v) = tt
+all-numbered t (removeLine c r a k s) = tt
+all-numbered t (createItem c r a f) = tt
+all-numbered t (bind c i a) = tt
+all-numbered t (handOver c i o) = tt
 
 -- if a call is done, every one of its questions was answered yes
 module _ (img : List ℕ) (c : Change) (done : act img c .answer .number ≡ 0) where
-  every-passed : Passed (imageQuestions img ++ questions (tables img) c)
-  unfolding act
-  every-passed = passed-first (imageQuestions img ++ questions (tables img) c) (all-numbered img c) done
-
   pub done-passed : Passed (questions (tables img) c)
-  done-passed = All-right (λ q. T (q .answer)) (imageQuestions img) (questions (tables img) c) every-passed
+  unfolding act
+  done-passed = call-passed img (questions (tables img) c) done (all-numbered (tables img) c)
 
   pub done-checked : check img ≡ 0
-  unfolding check
-  done-checked =
-      first-passed (imageQuestions img) (All-left (λ q. T (q .answer)) (imageQuestions img) (questions (tables img) c) every-passed)
+  unfolding act
+  done-checked = call-checked img (questions (tables img) c) done
 
 module _ (img : List ℕ) (c : Change) (handed : Handed c) (accepted : Accepted img) where
   pub done-well-formed : act img c .answer .number ≡ 0 → WellFormed (after (tables img) c)
@@ -128,14 +123,7 @@ module _ (img : List ℕ) (o : Opened) (is : o ≡ opened img) (c : Change) (a :
         → a ≡ act img c .answer
     act-passed = act-done (firstNo (questions (tablesBy lay img) c)) refl
 
--- Then the image afterwards, which follows from the answer. A call promises both.
-
-pub also : (img : List ℕ) (c : Change) (a : Answer) (new : List ℕ)
-    → a ≡ act img c .answer
-    → (a ≡ act img c .answer → new ≡ act img c .image)
-    → (a ≡ act img c .answer) × (new ≡ act img c .image)
-also img c a new e f = (e, f e)
-
+-- Then the image afterwards, which follows from the answer.
 module _ (img : List ℕ) (c : Change) (a : Answer) (answered-so : a ≡ act img c .answer) where
   pub kept : (k : ℕ) → a ≡ answer k 0 → (k ≡ 0 → ⊥) → img ≡ act img c .image
   kept k e bad =

@@ -7,7 +7,7 @@ use Prim.Native.Nat.{ℕ}
 use borrow.Author.Tests.{not-true, eq-eqb, ne-eqb}
 use lib.Dec.{T, eqb, T-not}
 use Rattle.model.specs.Questions.{Question, _asks_, firstNo, imageQuestions, check}
-use Rattle.laws.specs.Tests.{and-l, and-r, true-T, T-true, two, said-no, said-yes}
+use Rattle.laws.specs.Tests.{and-l, and-r, true-T, T-true, two, eq-or-ne, said-no, said-yes}
 use Rattle.laws.specs.WellFormed.{Passed}
 
 -- no question has the number 0
@@ -61,6 +61,14 @@ first-append (q ∷ qs) rs n =
       | inr e ↦ rw (e, not-true (eqb (q .number) 0) (T-true (not (eqb (q .number) 0)) (and-l (not (eqb (q .number) 0)) (numbered qs) n)))
     ]
 
+-- if none of both together is answered no, none of either is
+first-both : (qs rs : List Question) → T (numbered qs) → firstNo (qs ++ rs) ≡ 0 → (firstNo qs ≡ 0) × (firstNo rs ≡ 0)
+first-both qs rs n e =
+    elim (eq-or-ne (firstNo qs) 0) [
+      | inl z ↦ (z, sym (rw (eq-eqb (firstNo qs) 0 z) at (first-append qs rs n)) ∙ e)
+      | inr some ↦ absurd (some (sym (rw (ne-eqb (firstNo qs) 0 some) at (first-append qs rs n)) ∙ e))
+    ]
+
 -- the same as code asks them: n is the first no of qs, or 0
 module _ (qs rs : List Question) (n : ℕ) (named : T (numbered qs)) (said : n ≡ firstNo qs) where
   pub first-left : (n ≡ 0 → ⊥) → n ≡ firstNo (qs ++ rs)
@@ -73,3 +81,16 @@ module _ (qs rs : List Question) (n : ℕ) (named : T (numbered qs)) (said : n �
 pub image-passed : (img : List ℕ) → check img ≡ 0 → Passed (imageQuestions img)
 unfolding check imageQuestions
 image-passed img e = passed-first (imageQuestions img) tt e
+
+-- if a call is not refused, the check of the image answers 0, and every one of the call's own questions qs is answered yes
+module _ (img : List ℕ) (qs : List Question) (done : firstNo (imageQuestions img ++ qs) ≡ 0) where
+  both-zero : (firstNo (imageQuestions img) ≡ 0) × (firstNo qs ≡ 0)
+  unfolding imageQuestions
+  both-zero = first-both (imageQuestions img) qs tt done
+
+  pub call-checked : check img ≡ 0
+  unfolding check
+  call-checked = both-zero .0
+
+  pub call-passed : T (numbered qs) → Passed qs
+  call-passed named = passed-first qs named (both-zero .1)

@@ -146,6 +146,11 @@ module _ (img : List ℕ) (o : Opened) (is : o ≡ opened img) (s r i : ℕ) (x 
         answers-done img o is (λ t. explainQuestions t s i) explained refusedExplanation explained-refused
         (λ t. explanation t s r i) lay case x h e
 
+-- A call that also changes what it is lent promises two things: its answer a, and then, which follows from the answer, what it
+-- leaves.
+pub also : {A B : Type 0} (a a' : A) (b b' : B) → a ≡ a' → (a ≡ a' → b ≡ b') → (a ≡ a') × (b ≡ b')
+also a a' b b' e f = (e, f e)
+
 -- Count holders: first its answer a.
 module _ (img : List ℕ) (o : Opened) (is : o ≡ opened img) (i : ℕ) (old : List ℕ) (a : Answer) where
   abbrev asked : Tables → List Question
@@ -164,13 +169,7 @@ module _ (img : List ℕ) (o : Opened) (is : o ≡ opened img) (i : ℕ) (old : 
     unfolding countHolders
     count-done h e = e ∙ result-done img o is asked (λ t. 0) lay case 0 h refl
 
--- Then the counts, which follow from the answer. The call promises both.
-pub count-also : (img : List ℕ) (i : ℕ) (old : List ℕ) (a : Answer) (new : List ℕ)
-    → a ≡ countHolders img i old .answer
-    → (a ≡ countHolders img i old .answer → new ≡ countHolders img i old .counts)
-    → (a ≡ countHolders img i old .answer) × (new ≡ countHolders img i old .counts)
-count-also img i old a new e f = (e, f e)
-
+-- Then the counts, which follow from the answer.
 module _ (img : List ℕ) (i : ℕ) (old : List ℕ) (a : Answer) (answered-so : a ≡ countHolders img i old .answer) where
   number-is : (k : ℕ) → a ≡ answer k 0 → countHolders img i old .answer .number ≡ k
   number-is k e = ap (λ (x : Answer). x .number) (sym answered-so ∙ e)

@@ -16,11 +16,11 @@ use Rattle.model.specs.Permission.{permissionSet, permissionUnder, operationUnd
 use Rattle.model.specs.Calls.{holders, holderCounts}
 use Rattle.model.specs.Calls.Ask.{permissionSetOf}
 use Rattle.model.specs.Questions.{firstNo, imageQuestions, holdersQuestions, check, Accepted, ask, countHolders}
-use Rattle.laws.specs.Tests.{T-true, All-left, All-right}
+use Rattle.laws.specs.Tests.{T-true}
 use Rattle.laws.specs.Counts.{how-many-most, how-many-some, how-many-same, each-count, each-at}
 use Rattle.laws.specs.Sets.{has-or, has-and, has-everything}
 use Rattle.laws.specs.WellFormed.{WellFormed, Passed}
-use Rattle.laws.specs.Answers.{first-passed, passed-first}
+use Rattle.laws.specs.Answers.{call-checked, call-passed}
 use Rattle.laws.specs.Back.{tables-well-formed}
 use Rattle.laws.specs.Asks.{asked-set}
 use Rattle.laws.specs.Kept.{custodian-has}
@@ -39,18 +39,13 @@ module _ (img : List ℕ) (i : ℕ) (old : List ℕ) where
       rw (ne-eqb (firstNo (imageQuestions img ++ holdersQuestions (tables img) i (length old))) 0 refused)
 
   module _ (done : countHolders img i old .answer .number ≡ 0) where
-    passed : Passed (imageQuestions img ++ holdersQuestions (tables img) i (length old))
-    unfolding countHolders imageQuestions holdersQuestions
-    passed = passed-first (imageQuestions img ++ holdersQuestions (tables img) i (length old)) tt done
-
     own-passed : Passed (holdersQuestions (tables img) i (length old))
-    own-passed = All-right (λ q. T (q .answer)) (imageQuestions img) (holdersQuestions (tables img) i (length old)) passed
+    unfolding countHolders holdersQuestions
+    own-passed = call-passed img (holdersQuestions (tables img) i (length old)) done tt
 
     checked : check img ≡ 0
-    unfolding check
-    checked =
-        first-passed (imageQuestions img)
-        (All-left (λ q. T (q .answer)) (imageQuestions img) (holdersQuestions (tables img) i (length old)) passed)
+    unfolding countHolders
+    checked = call-checked img (holdersQuestions (tables img) i (length old)) done
 
     item-in-use : T (itemUsed (tables img .items) i)
     unfolding holdersQuestions

@@ -25,7 +25,7 @@ use Rattle.model.specs.Calls.{askResult}
 use Rattle.model.specs.Calls.Ask.{permissionSetOf}
 use Rattle.model.specs.Questions.{firstNo, imageQuestions, askQuestions, explainQuestions, answer, ask, explain}
 use Rattle.laws.specs.Tests.{eq-or-ne}
-use Rattle.laws.specs.Answers.{passed-first}
+use Rattle.laws.specs.Answers.{image-passed, call-checked}
 use Rattle.laws.specs.Standing.{stands, absent, only-row, no-row}
 use Rattle.laws.specs.Nearest.{Met, met, meets, meets-none}
 
@@ -159,8 +159,8 @@ module _ (img : List ℕ) (s r i : ℕ) where
     is-explanation = rw none-refused
 
     lines-hold : T (linesHold (tables img))
-    unfolding imageQuestions explainQuestions
-    lines-hold = passed-first (imageQuestions img ++ explainQuestions (tables img) s i) tt none-refused .1 .1 .1 .1 .0
+    unfolding imageQuestions
+    lines-hold = image-passed img (call-checked img (explainQuestions (tables img) s i) none-refused) .1 .1 .1 .1 .0
 
     abbrev row : ItemRow
     row = itemIn (tables img .items) i

@@ -4,7 +4,8 @@
 use borrow.Author.Needs.{needs}
 use Rattle.model.specs.Calls.{changeResult}
 use Rattle.laws.specs.Opens.{refused-not}
-use Rattle.laws.specs.Acts.{act-image, act-no, act-passed, also, kept}
+use Rattle.laws.specs.Asks.{also}
+use Rattle.laws.specs.Acts.{act-image, act-no, act-passed, kept}
 use Rattle.store.specs.Calls.{store-number, store-not, store-passed}
 use Rattle.changing_grants.specs.Grants.{grant-set}
 use Rattle.changing_grants.proofs.set_grant.Statement.{statement}

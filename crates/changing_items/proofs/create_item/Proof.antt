@@ -1,7 +1,8 @@
 -- `changing_items::create_item` meets its contract: first the answer at each return, and from the answer the image.
 use borrow.Author.Needs.{needs}
 use Rattle.laws.specs.Opens.{refused-not}
-use Rattle.laws.specs.Acts.{act-image, act-no, act-done, also, kept}
+use Rattle.laws.specs.Asks.{also}
+use Rattle.laws.specs.Acts.{act-image, act-no, act-done, kept}
 use Rattle.changing_items.specs.Items.{result-item, number-fits, item-created}
 use Rattle.changing_items.proofs.create_item.Statement.{statement}
 use Rattle.changing_items.proofs.create_item.Tie as tie

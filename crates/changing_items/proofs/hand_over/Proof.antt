@@ -2,7 +2,8 @@
 use borrow.Author.Needs.{needs}
 use Rattle.model.specs.Calls.{changeResult}
 use Rattle.laws.specs.Opens.{refused-not}
-use Rattle.laws.specs.Acts.{act-image, act-no, act-done, also, kept}
+use Rattle.laws.specs.Asks.{also}
+use Rattle.laws.specs.Acts.{act-image, act-no, act-done, kept}
 use Rattle.changing_items.specs.Items.{item-handed}
 use Rattle.changing_items.proofs.hand_over.Statement.{statement}
 use Rattle.changing_items.proofs.hand_over.Tie as tie

@@ -1,7 +1,8 @@
 -- `changing_subjects::define_subject` meets its contract: first the answer at each return, and from the answer the image.
 use borrow.Author.Needs.{needs}
 use Rattle.laws.specs.Opens.{refused-not}
-use Rattle.laws.specs.Acts.{act-image, act-no, act-done, also, kept}
+use Rattle.laws.specs.Asks.{also}
+use Rattle.laws.specs.Acts.{act-image, act-no, act-done, kept}
 use Rattle.changing_subjects.specs.Subjects.{result-subject, defined}
 use Rattle.changing_subjects.proofs.define_subject.Statement.{statement}
 use Rattle.changing_subjects.proofs.define_subject.Tie as tie

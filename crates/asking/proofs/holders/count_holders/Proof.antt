@@ -2,7 +2,7 @@
 use borrow.Author.Needs.{needs}
 use Rattle.laws.specs.Answers.{asked-no, asked-yes, asked-all}
 use Rattle.laws.specs.Opens.{refused-some}
-use Rattle.laws.specs.Asks.{count-image, count-no, count-done, count-also, counts-kept, counts-left}
+use Rattle.laws.specs.Asks.{also, count-image, count-no, count-done, counts-kept, counts-left}
 use Rattle.model.specs.Questions.{holdersQuestions}
 use Rattle.asking.proofs.holders.count_holders.Statement.{statement}
 use Rattle.asking.proofs.holders.count_holders.Tie as tie
@@ -20,7 +20,7 @@ refused-requires : tie.Need-refused-requires
 refused-requires c κs = search needs
 
 returns : tie.Need-returns
-returns c = count-also _ _ _ _ _ (search count-image) (λ h. search (counts-kept, refused-some))
+returns c = also _ _ _ _ (search count-image) (λ h. search (counts-kept, refused-some))
 
 item-used-requires : tie.Need-item-used-requires
 item-used-requires c κs = search needs
@@ -30,7 +30,7 @@ refused-requires-2 c κs = search needs
 
 returns-2 : tie.Need-returns-2
 unfolding holdersQuestions
-returns-2 c = count-also _ _ _ _ _ (search (count-no, asked-no)) (λ h. search counts-kept)
+returns-2 c = also _ _ _ _ (search (count-no, asked-no)) (λ h. search counts-kept)
 
 has-every-position-requires : tie.Need-has-every-position-requires
 has-every-position-requires c κs = search needs
@@ -40,7 +40,7 @@ refused-requires-3 c κs = search needs
 
 returns-3 : tie.Need-returns-3
 unfolding holdersQuestions
-returns-3 c = count-also _ _ _ _ _ (search (count-no, asked-yes, asked-no)) (λ h. search counts-kept)
+returns-3 c = also _ _ _ _ (search (count-no, asked-yes, asked-no)) (λ h. search counts-kept)
 
 count-subjects-requires : tie.Need-count-subjects-requires
 count-subjects-requires c κs = search needs
@@ -53,7 +53,7 @@ same-length c = search needs
 
 returns-4 : tie.Need-returns-4
 unfolding holdersQuestions
-returns-4 c = count-also _ _ _ _ _ (search (count-done, asked-yes, asked-all)) (λ h. search counts-left)
+returns-4 c = also _ _ _ _ (search (count-done, asked-yes, asked-all)) (λ h. search counts-left)
 
 pub count-holders-spec : {M : Type 1} → statement M
 count-holders-spec =
