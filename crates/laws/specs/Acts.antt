@@ -3,7 +3,7 @@
 use mathlib.Core.Bool.{Bool, true, false}
 use mathlib.Core.List.{List, [], _∷_, _++_}
 use mathlib.Core.Logic.{_≢_}
-use mathlib.Core.Path.{_≡_, refl, sym, ap, _∙_}
+use mathlib.Core.Path.{_≡_, refl, sym, _∙_}
 use Prim.Native.Nat.{ℕ, suc, _<_}
 use native.Mathlib.Omega.{arith}
 use mir.Syntax.{w8}
@@ -22,7 +22,7 @@ use Rattle.model.specs.Calls.Change.{defineSubject, setGrant, removeGrant, setL
 use Rattle.model.specs.Questions.{imageQuestions, questions, firstNo, answer, answered, check, opened, Accepted, act}
 use Rattle.laws.specs.WellFormed.{WellFormed, fitting, Passed}
 use Rattle.laws.specs.Answers.{numbered, call-checked, call-passed}
-use Rattle.laws.specs.Asks.{result-image, result-no, result-done}
+use Rattle.laws.specs.Asks.{result-image, result-no, result-done, number-said}
 use Rattle.laws.specs.Kept.{well-formed-after}
 use Rattle.laws.specs.Back.{tables-well-formed}
 use Rattle.laws.specs.There.{tables-there, encode-accepted}
@@ -127,12 +127,12 @@ module _ (img : List ℕ) (o : Opened) (is : o ≡ opened img) (c : Change) (a :
 module _ (img : List ℕ) (c : Change) (a : Answer) (answered-so : a ≡ act img c .answer) where
   pub kept : (k : ℕ) → a ≡ answer k 0 → (k ≡ 0 → ⊥) → img ≡ act img c .image
   kept k e bad =
-      let number : act img c .answer .number ≡ k = ap (λ (x : Answer). x .number) (sym answered-so ∙ e) in
+      let number : act img c .answer .number ≡ k = number-said a (act img c .answer) answered-so k 0 e in
       sym (refused-keeps img c (λ z. bad (sym number ∙ z)))
 
   module _ (v : ℕ) (e : a ≡ answer 0 v) where
     number-done : act img c .answer .number ≡ 0
-    number-done = ap (λ (x : Answer). x .number) (sym answered-so ∙ e)
+    number-done = number-said a (act img c .answer) answered-so 0 v e
 
     pub was-passed : Passed (questions (tables img) c)
     was-passed = done-passed img c number-done

@@ -151,6 +151,10 @@ module _ (img : List ℕ) (o : Opened) (is : o ≡ opened img) (s r i : ℕ) (x 
 pub also : {A B : Type 0} (a a' : A) (b b' : B) → a ≡ a' → (a ≡ a' → b ≡ b') → (a ≡ a') × (b ≡ b')
 also a a' b b' e f = (e, f e)
 
+-- the number of the answer b that the definition gives, where the code answers k
+pub number-said : (a b : Answer) → a ≡ b → (k v : ℕ) → a ≡ answer k v → b .number ≡ k
+number-said a b is k v e = ap (λ (x : Answer). x .number) (sym is ∙ e)
+
 -- Count holders: first its answer a.
 module _ (img : List ℕ) (o : Opened) (is : o ≡ opened img) (i : ℕ) (old : List ℕ) (a : Answer) where
   abbrev asked : Tables → List Question
@@ -172,7 +176,7 @@ module _ (img : List ℕ) (o : Opened) (is : o ≡ opened img) (i : ℕ) (old : 
 -- Then the counts, which follow from the answer.
 module _ (img : List ℕ) (i : ℕ) (old : List ℕ) (a : Answer) (answered-so : a ≡ countHolders img i old .answer) where
   number-is : (k : ℕ) → a ≡ answer k 0 → countHolders img i old .answer .number ≡ k
-  number-is k e = ap (λ (x : Answer). x .number) (sym answered-so ∙ e)
+  number-is k e = number-said a (countHolders img i old .answer) answered-so k 0 e
 
   pub counts-kept : (k : ℕ) → a ≡ answer k 0 → eqb k 0 ≡ false → old ≡ countHolders img i old .counts
   unfolding countHolders

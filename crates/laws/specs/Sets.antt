@@ -74,7 +74,7 @@ has-everything w n h = rw (bytes-positions w) (has-all (positionsOf w) n h)
 
 pub within-everything : (w v : ℕ) → v < 256 ^ w → T (within v (everything w))
 within-everything w v h =
-    let whole : v ∩ everything w ≡ v = rw (bytes-positions w) (and-all (8 * w) v (rw (bytes-positions w) at h)) in
+    let whole : v ∩ everything w ≡ v = rw (bytes-positions w) (and-all (positionsOf w) v (rw (bytes-positions w) at h)) in
     true-T (within v (everything w)) (eq-eqb (v ∩ everything w) v whole)
 
 -- the position and the set may be replaced by equal ones, as where callees answer them
