@@ -1,18 +1,20 @@
--- The editor search: subjects are tried one after the other, from the first after the custodian.
-use mathlib.Core.Bool.{Bool, true, false}
+-- The editor search: subjects are tried one after the other, from the first after the custodian; and whether a subject may edit.
+use mathlib.Core.Bool.{Bool, true, false, not}
 use mathlib.Core.List.{List}
 use mathlib.Core.Logic.{inl, inr}
+use mathlib.Core.Option.{none}
 use mathlib.Core.Path.{_≡_, refl, sym, _∙_}
 use Prim.Native.Nat.{ℕ, _+_, _<_, _≤_}
 use native.Mathlib.Omega.{arith}
-use borrow.Author.Tests.{lt-ltb, le-ltb, ne-eqb, eq-eqb}
+use borrow.Author.Tests.{lt-ltb, le-ltb, ne-eqb, eq-eqb, not-true, not-false}
 use lib.ListN.{length}
 use Rattle.model.specs.declared.Layout.{Layout}
 use Rattle.model.specs.WhoAndWhat.{editList, has}
 use Rattle.model.specs.Image.{Tables, widthOf, subjectFormat, tablesBy, subjectUsed}
-use Rattle.model.specs.Permission.{permissionSet}
+use Rattle.model.specs.Permission.{operationUnder, objectUnder, permissionUnder, permissionSet}
 use Rattle.model.specs.Calls.{isEditor}
 use Rattle.laws.specs.Tests.{two, le-or-lt, lt-eq-gt}
+use Rattle.laws.specs.Sets.{has-and}
 use Rattle.laws.specs.Rows.{rows-count}
 use Rattle.asking.specs.Found.{Editor}
 
@@ -64,3 +66,19 @@ module _ (t : Tables) (a : ℕ) where
 pub subjects-used : (lay : Layout) (img : List ℕ) → lay .subjects .used ≡ length (tablesBy lay img .subjects)
 unfolding tablesBy
 subjects-used lay img = sym (rows-count (subjectFormat (widthOf lay)) (lay .subjects) img)
+
+-- Whether s may edit list a: without the position in the operation set it may not, and otherwise the object set decides.
+module _ (t : Tables) (s a needed : ℕ) (position : needed ≡ editList) (operations : ℕ) (its-operations : operations ≡ operationUnder t s none)
+    (b : Bool) (said : b ≡ has needed operations) where
+  pub edit-no : not b ≡ true → false ≡ has editList (permissionSet t s 0 a)
+  unfolding permissionUnder
+  edit-no h =
+      let lacks : has editList (operationUnder t s none) ≡ false = rw (← its-operations, ← position, ← said) (not-true b h) in
+      rw (has-and editList (operationUnder t s none) (objectUnder t s none a), lacks)
+
+  pub edit-by-lines : not b ≡ false → (objects : ℕ) → objects ≡ objectUnder t s none a → (r : Bool) → r ≡ has needed objects
+      → r ≡ has editList (permissionSet t s 0 a)
+  unfolding permissionUnder
+  edit-by-lines h objects its-objects r e =
+      let holds : has editList (operationUnder t s none) ≡ true = rw (← its-operations, ← position, ← said) (not-false b h) in
+      rw (has-and editList (operationUnder t s none) (objectUnder t s none a), holds) (e ∙ rw (position, its-objects))

@@ -1,12 +1,10 @@
 -- What the contracts of `asking` cite beside the definitions of `model`: counts to which a set is added, the rows of a list among
 -- the lines, and what the search for an editor found.
-use mathlib.Core.Bool.{true, false, cond}
+use mathlib.Core.Bool.{true, false}
 use mathlib.Core.List.{List, [], _∷_}
 use mathlib.Core.Path.{_≡_}
-use Prim.Native.Nat.{ℕ, suc, _+_, _-_, _*_, _/_, _%_, _≤_}
-use lib.Dec.{eqb}
+use Prim.Native.Nat.{ℕ, _+_, _-_, _*_, _/_, _%_, _≤_}
 use lib.ListN.{length}
-use Rattle.model.specs.declared.LineRow.{LineRow}
 use Rattle.model.specs.Image.{Tables, layoutOf, tables, size, lineFormat, widthOf}
 use Rattle.model.specs.Calls.{rowsOf, rowsBefore, isEditor}
 use Rattle.model.specs.Calls.Ask.{listCount}
@@ -24,10 +22,9 @@ counted p (c ∷ cs) = (c + p % 2) ∷ counted (p / 2) cs
 abbrev pub lowest : ℕ → List ℕ
 lowest a = a ∷ 0 ∷ 0 ∷ []
 
--- how many rows name list a, from the first row on and without a gap
-unfoldable pub leading : ℕ → List LineRow → ℕ
-leading a [] = 0
-leading a (l ∷ ls) = cond (eqb (l .list .0) a) (suc (leading a ls)) 0
+-- a key higher than those of all lines of list a, and lower than those of the next list's: there is no such kind
+abbrev pub beyond : ℕ → List ℕ
+beyond a = a ∷ 4 ∷ 0 ∷ []
 
 -- how many bytes a line has
 abbrev pub lineSize : List ℕ → ℕ

@@ -1,13 +1,13 @@
 -- The rows of a list that are shown: their count, and which bytes of the image they are.
-use mathlib.Core.Bool.{Bool, true, false, not, _&&_, and-false}
+use mathlib.Core.Bool.{Bool, true, false, not, _&&_, _||_, and-false}
 use mathlib.Core.List.{List, []}
 use mathlib.Core.Path.{_≡_, refl, sym, ap, _∙_}
 use Prim.Native.Nat.{ℕ, zero, suc, _+_, _-_, _*_, _<_, _≤_}
 use native.Mathlib.Nat.{zero-add, mul-le-mul-right, add-mul}
 use native.Mathlib.Omega.{arith}
 use borrow.Author.Tests.{eq-eqb, ne-eqb}
-use lib.Dec.{T, eqb}
-use lib.ListN.{length, take, drop, length-drop}
+use lib.Dec.{T, eqb, leb, leb→le}
+use lib.ListN.{length, take, drop}
 use Rattle.model.specs.declared.Answer.{Answer}
 use Rattle.model.specs.declared.Layout.{Layout}
 use Rattle.model.specs.declared.Opened.{Opened}
@@ -15,14 +15,15 @@ use Rattle.model.specs.declared.Opened.the-variants.{With, Refused}
 use Rattle.asking.specs.declared.list_rows.ListRows.{ListRows}
 use Rattle.asking.specs.declared.list_rows.ListRows.the-variants.{Rows}
 use Rattle.asking.specs.declared.list_rows.ListRows.the-variants as list
-use Rattle.model.specs.Lists.{every}
+use Rattle.model.specs.Lists.{All}
 use Rattle.model.specs.Sorted.{insertionIndex, ascending}
-use Rattle.model.specs.Image.{layoutOf, tablesBy, tables, size, lineFormat, widthOf, isList, lineKey, lineRules, linesHold}
-use Rattle.model.specs.Calls.{rowsOf, askResult}
+use Rattle.model.specs.Image.{layoutOf, tablesBy, tables, size, lineFormat, widthOf, isList, lineKey}
+use Rattle.model.specs.Image.{subjectUsed, groupKind, everyoneKind, kindFits, linesHold}
+use Rattle.model.specs.Calls.{rowsOf, rowsBefore, askResult}
 use Rattle.model.specs.Calls.Ask.{listCount}
 use Rattle.model.specs.Questions.{answer, check, opened, ask, askQuestions, imageQuestions, shows, listStart, listExtent, listSlice}
-use Rattle.laws.specs.Tests.{and-r}
-use Rattle.laws.specs.WellFormed.{Passed}
+use Rattle.laws.specs.Tests.{and-l, and-r, All-map}
+use Rattle.laws.specs.Kept.{line-rules, lines-ascending}
 use Rattle.laws.specs.Answers.{asked-no, asked-yes, asked-all, image-passed}
 use Rattle.laws.specs.Sorted.{index-le}
 use Rattle.laws.specs.Rows.{rows-count, line-lawful}
@@ -30,8 +31,8 @@ use Rattle.laws.specs.Blocks.{starts-before-end, rows-extent}
 use Rattle.laws.specs.Laid.{Laid, laid, lines-inside}
 use Rattle.laws.specs.Opens.{refused-by, opened-with, layout-with}
 use Rattle.laws.specs.Asks.{ask-image, ask-no, ask-done}
-use Rattle.asking.specs.Found.{lowest, leading, lineSize, Shown, ShownBy}
-use Rattle.asking.specs.Runs.{leading-few, run-begins, run-counts}
+use Rattle.asking.specs.Found.{lowest, beyond, lineSize, Shown, ShownBy}
+use Rattle.asking.specs.Runs.{run-begins, run-ends}
 
 none-shown : (img : List ℕ) (a k : ℕ) → (k ≡ 0 → ⊥) → answer k 0 ≡ ask img (listCount a) → Shown img a k 0 0
 none-shown img a k h e =
@@ -44,13 +45,23 @@ none-shown img a k h e =
       inside = λ z. absurd (h z);
     }
 
--- in an accepted image the lines ascend, and the rows in use end inside the image
-lines-ascend : (img : List ℕ) → check img ≡ 0 → T (ascending lineKey (tables img .lines))
-unfolding imageQuestions linesHold
-lines-ascend img ok =
-    let passed : Passed (imageQuestions img) = image-passed img ok in
-    and-r (every (lineRules (tables img .subjects) (tables img .items)) (tables img .lines)) (ascending lineKey (tables img .lines))
-    (passed .1 .1 .1 .1 .0)
+-- in an accepted image the lines ascend, each is of one of the kinds, and the rows in use end inside the image
+
+lines-held : (img : List ℕ) → check img ≡ 0 → T (linesHold (tables img))
+unfolding imageQuestions
+lines-held img ok = image-passed img ok .1 .1 .1 .1 .0
+
+kinds-fit : (img : List ℕ) → check img ≡ 0 → All (λ l. l .kind ≤ everyoneKind) (tables img .lines)
+kinds-fit img ok =
+    All-map
+    (λ l rules.
+    let fits : T (kindFits (l .kind) (l .subject .0)) =
+    and-l (kindFits (l .kind) (l .subject .0)) (subjectUsed (tables img .subjects) (l .subject .0) && true)
+    (and-r (isList (tables img .items) (l .list .0))
+    (kindFits (l .kind) (l .subject .0) && (subjectUsed (tables img .subjects) (l .subject .0) && true)) rules) in
+    leb→le (l .kind) everyoneKind
+    (and-l (leb (l .kind) everyoneKind) (leb (l .kind) groupKind || eqb (l .subject .0) 0) fits))
+    (tables img .lines) (line-rules (tables img) (lines-held img ok))
 
 lines-end : (img : List ℕ) (n : ℕ) → check img ≡ 0 → n ≤ length (tables img .lines)
     → layoutOf img .lines .start + n * lineSize img ≤ length img
@@ -88,28 +99,24 @@ module _ (img : List ℕ) (o : Opened) (is : o ≡ opened img) (a : ℕ) where
     pub shown-rows : (first end : ℕ)
         → not b ≡ false
         → first ≡ insertionIndex lineKey (lowest a) (tablesBy lay img .lines)
-        → end ≡ first + leading a (drop first (tablesBy lay img .lines))
+        → end ≡ insertionIndex lineKey (beyond a) (tablesBy lay img .lines)
         → ShownBy img a (Rows lay first end)
     unfolding askQuestions askResult
     shown-rows first end h at to =
         let accepted : check img ≡ 0 = opened-with img o is lay case .0 in
         let there : lay ≡ layoutOf img = layout-with img o is lay case in
-        let asc : T (ascending lineKey (tables img .lines)) = lines-ascend img accepted in
-        let first-is : first ≡ insertionIndex lineKey (lowest a) (tables img .lines) =
-        at ∙ ap (λ (l : Layout). insertionIndex lineKey (lowest a) (tablesBy l img .lines)) there in
-        let end-is : end ≡ first + leading a (drop (insertionIndex lineKey (lowest a) (tables img .lines)) (tables img .lines)) =
-        to
-        ∙ ap (λ (l : Layout). first + leading a (drop first (tablesBy l img .lines))) there
-        ∙ ap (λ (k : ℕ). first + leading a (drop k (tables img .lines))) first-is in
-        let count-is : end ≡ first + length (rowsOf a (tables img .lines)) =
-        end-is ∙ ap (λ (k : ℕ). first + k) (run-counts a (tables img .lines) asc) in
+        let up : T (ascending lineKey (tables img .lines)) = lines-ascending (tables img) (lines-held img accepted) in
+        let first-is : first ≡ length (rowsBefore a (tables img .lines)) =
+        at
+        ∙ ap (λ (l : Layout). insertionIndex lineKey (lowest a) (tablesBy l img .lines)) there
+        ∙ run-begins a (tables img .lines) up in
+        let end-index : end ≡ insertionIndex lineKey (beyond a) (tables img .lines) =
+        to ∙ ap (λ (l : Layout). insertionIndex lineKey (beyond a) (tablesBy l img .lines)) there in
+        let end-is : end ≡ length (rowsBefore a (tables img .lines)) + length (rowsOf a (tables img .lines)) =
+        end-index ∙ run-ends a (tables img .lines) up (kinds-fit img accepted) in
+        let count-is : end ≡ first + length (rowsOf a (tables img .lines)) = omega arith in
         let rows-counted : end - first ≡ length (rowsOf a (tables img .lines)) = omega arith in
-        let near : first ≤ length (tables img .lines) = rw first-is (index-le lineKey (lowest a) (tables img .lines)) in
-        let few : leading a (drop (insertionIndex lineKey (lowest a) (tables img .lines)) (tables img .lines))
-        ≤ length (tables img .lines) - first =
-        rw first-is
-        (rw (length-drop) at (leading-few a (drop (insertionIndex lineKey (lowest a) (tables img .lines)) (tables img .lines)))) in
-        let far : end ≤ length (tables img .lines) = omega arith in (
+        let far : end ≤ length (tables img .lines) = rw end-index (index-le lineKey (beyond a) (tables img .lines) up) in (
           record {
             answers =
                 ask-done img o is (listCount a) (answer 0 (end - first)) lay case (end - first)
@@ -117,7 +124,7 @@ module _ (img : List ℕ) (o : Opened) (is : o ≡ opened img) (a : ℕ) where
                 (rows-counted ∙ ap (λ (l : Layout). length (rowsOf a (tablesBy l img .lines))) (sym there)) refl;
             ordered = omega arith;
             refused-none = λ d. absurd (d refl);
-            begins = λ z. first-is ∙ run-begins a (tables img .lines) asc;
+            begins = λ z. first-is;
             counts = λ z. count-is;
             inside = λ z. lines-end img end accepted far;
           },

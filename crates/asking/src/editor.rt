@@ -16,7 +16,8 @@ use model::Subject;
 use model::has;
 use model::needed_position;
 use model::refusal;
-use permission::decision::permissions_under;
+use permission::decision::objects_under;
+use permission::decision::operations_under;
 use tables::items::is_list;
 
 // Finds a subject, other than the custodian, that may edit the list without claiming a role. Its number is the result.
@@ -58,10 +59,15 @@ fn some_editor(image: &[u8], layout: Layout, list: Item) -> u32
     0
 }
 
-// Whether a subject may edit a list without claiming a role.
+// Whether a subject may edit a list without claiming a role. The lines are looked up only if the subject may edit lists at all.
 fn may_edit(image: &[u8], layout: Layout, subject: Subject, list: Item) -> bool
     ensures { λ r. ⌜ r ≡ has editList (permissionSet (tablesAt layout (image .entry)) (subject .0) 0 (list .0)) ⌝ }
 {
-    let set = permissions_under(image, layout, subject, SoughtGrant::NoGrant, list);
-    has(needed_position(SET_LINE), set)
+    let needed = needed_position(SET_LINE);
+    let operations = operations_under(image, layout, subject, SoughtGrant::NoGrant);
+    if !has(needed, operations) {
+        return false;
+    }
+    let objects = objects_under(image, layout, subject, SoughtGrant::NoGrant, list);
+    has(needed, objects)
 }

@@ -1,10 +1,8 @@
 // The rows of one list among the lines of an image.
 ghost use mathlib.Core.Path.{_≡_};
-ghost use Prim.Native.Nat.{_+_};
-ghost use lib.ListN.{drop};
 ghost use Rattle.model.specs.Sorted.{insertionIndex};
 ghost use Rattle.model.specs.Image.{lineKey};
-ghost use Rattle.asking.specs.Found.{lowest, leading, ShownBy};
+ghost use Rattle.asking.specs.Found.{lowest, beyond, ShownBy};
 ghost use Rattle.model.specs.Lent.{tablesAt};
 use acceptance::open;
 use model::Item;
@@ -13,8 +11,7 @@ use model::LineRow;
 use model::Opened;
 use model::Subject;
 use model::refusal;
-use rows::read::line_at;
-use search::lines::line_insertion_index;
+use search::lines::search_line;
 use tables::items::is_list;
 
 // The rows of a list: the layout of the image, and two indices. The rows start at the first index and end before the
@@ -40,7 +37,7 @@ pub fn shown_rows(image: &[u8], list: Item) -> ListRows
         return ListRows::Refused(refusal::NOT_A_LIST);
     }
     let first = run_start(image, layout, list);
-    let end = run_end(image, layout, list, first);
+    let end = run_end(image, layout, list);
     ListRows::Rows(layout, first, end)
 }
 
@@ -48,22 +45,15 @@ pub fn shown_rows(image: &[u8], list: Item) -> ListRows
 fn run_start(image: &[u8], layout: Layout, list: Item) -> u32
     ensures { λ r. ⌜ r ≡ insertionIndex lineKey (lowest (list .0)) (tablesAt layout (image .entry) .lines) ⌝ }
 {
-    line_insertion_index(image, layout, list, LineRow::ITSELF, Subject(0))
+    let found = search_line(image, layout, list, LineRow::ITSELF, Subject(0));
+    found.insertion_index()
 }
 
-// The index before which the list's rows end. From index `first` on, rows are passed as long as they name the list.
-fn run_end(image: &[u8], layout: Layout, list: Item, first: u32) -> u32
-    ensures { λ r. ⌜ r ≡ first + leading (list .0) (drop first (tablesAt layout (image .entry) .lines)) ⌝ }
+// The index before which the list's rows end: the insertion index of a key that is higher than those of the list's rows, and
+// lower than those of the next list's.
+fn run_end(image: &[u8], layout: Layout, list: Item) -> u32
+    ensures { λ r. ⌜ r ≡ insertionIndex lineKey (beyond (list .0)) (tablesAt layout (image .entry) .lines) ⌝ }
 {
-    let table = layout.lines;
-    let used = table.used;
-    let mut end = first;
-    while end < used {
-        let row = line_at(image, layout, end);
-        if row.list.0 != list.0 {
-            return end;
-        }
-        end += 1;
-    }
-    end
+    let found = search_line(image, layout, list, LineRow::KINDS, Subject(0));
+    found.insertion_index()
 }

@@ -2,6 +2,7 @@
 use mathlib.Core.List.{List, [], _∷_}
 use mathlib.Core.Path.{_≡_, refl, _∙_}
 use Prim.Native.Nat.{ℕ}
+use lib.Dec.{T}
 use lib.ListN.{getD}
 use mir.Syntax.{w8}
 use mir.Val.{Fits}
@@ -10,11 +11,12 @@ use Rattle.model.specs.declared.Layout.{Layout}
 use Rattle.model.specs.declared.GrantRow.{GrantRow}
 use Rattle.model.specs.declared.Opened.{Opened}
 use Rattle.model.specs.declared.Opened.the-variants.{With}
-use Rattle.model.specs.Sorted.{insertionIndex}
+use Rattle.model.specs.Sorted.{ascending, insertionIndex}
 use Rattle.model.specs.Image.{layoutOf, tablesBy, tables, widthOf, grantFormat, grantKey, grantRow, noGrant, encode}
 use Rattle.model.specs.Calls.{withGrants, after}
 use Rattle.model.specs.Calls.Change.{setGrant, removeGrant}
-use Rattle.model.specs.Questions.{firstNo, questions, answer, opened, act}
+use Rattle.model.specs.Questions.{firstNo, questions, answer, opened, Accepted, act}
+use Rattle.laws.specs.Kept.{grants-ascending}
 use Rattle.laws.specs.Back.{tables-well-formed}
 use Rattle.laws.specs.Opens.{layout-with}
 use Rattle.search.specs.declared.RowIndex.{RowIndex}
@@ -32,6 +34,9 @@ module _ (img : List ℕ) (o : Opened) (is : o ≡ opened img) (lay : Layout) (c
   there : lay ≡ layoutOf img
   there = layout-with img o is lay case
 
+  grants-sorted : Accepted img → T (ascending grantKey (tables img .grants))
+  grants-sorted accepted = grants-ascending (tables img) (tables-well-formed img accepted .grants-hold)
+
   pub grant-set : (c s r d v : ℕ) (asked : Storing) (index : RowIndex) (x : GrantRow)
       → asked ≡ storing (firstNo (questions (tablesBy lay img) (setGrant c s r d v)))
       (rowIndex grantKey (s ∷ r ∷ []) (tablesBy lay img .grants))
@@ -47,7 +52,7 @@ module _ (img : List ℕ) (o : Opened) (is : o ≡ opened img) (lay : Layout) (c
       (λ rows. encode (withGrants (tables img) rows))
       (grants-stored img)
       (setGrant c s r d v)
-      a answered m said bytes new grantKey noGrant (grantRow s r c d v) index refl
+      a answered m said bytes new grantKey noGrant grants-sorted (grantRow s r c d v) index refl
       (λ passed. passed .1 .1 .1 .1 .1 .1 .0)
       (rw there at
       (store-index (firstNo (questions (tablesBy lay img) (setGrant c s r d v)))
@@ -68,7 +73,7 @@ module _ (img : List ℕ) (o : Opened) (is : o ≡ opened img) (lay : Layout) (c
       (λ rows. encode (withGrants (tables img) rows))
       (grants-stored img)
       (removeGrant c s r)
-      a answered m said bytes new grantKey noGrant (s ∷ r ∷ []) n refl
+      a answered m said bytes new grantKey noGrant grants-sorted (s ∷ r ∷ []) n refl
       (λ passed. passed .1 .1 .1 .0)
       (λ accepted. tables-well-formed img accepted .grants-capacity)
       (rw there at

@@ -1,28 +1,31 @@
 // The questions of set grant and remove grant, after those of the image. Each call's function answers the refusal, or which
 // row the change is about.
-ghost use mathlib.Core.Bool.{_||_};
+ghost use mathlib.Core.Bool.{not, _||_};
 ghost use mathlib.Core.List.{[], _∷_};
+ghost use mathlib.Core.Option.{some};
 ghost use mathlib.Core.Path.{_≡_};
 ghost use lib.Dec.{eqb, ltb};
 ghost use lib.ListN.{take};
+ghost use Rattle.model.specs.Lists.{isThere};
 ghost use Rattle.model.specs.Sorted.{insertionIndex};
 ghost use Rattle.model.specs.WhoAndWhat.{custodian};
 ghost use Rattle.model.specs.Image.{capacitiesBy, grantKey};
 ghost use Rattle.model.specs.Calls.Change.{setGrant, removeGrant};
-ghost use Rattle.model.specs.Questions.{questions, firstNo};
+ghost use Rattle.model.specs.Questions.{questions, firstNo, givenBy};
 ghost use Rattle.search.specs.RowIndices.{isExisting, rowIndex};
 ghost use Rattle.store.specs.Stores.{storing, removing, storingNumber, removingNumber};
-ghost use Rattle.changing_grants.specs.GivenAt.{givenAt, maySet};
+ghost use Rattle.search.specs.Answers.{grantAnswer};
 ghost use Rattle.model.specs.Lent.{tablesAt};
 use model::CUSTODIAN;
+use model::GrantRow;
 use model::Layout;
 use model::Privileges;
 use model::Role;
 use model::Subject;
 use model::refusal;
-use rows::read::grant_at;
 use search::RowIndex;
-use search::grants::grant_index;
+use search::grants::FoundGrant;
+use search::grants::search_grant;
 use store::Removing;
 use store::Storing;
 use tables::free::grant_free;
@@ -52,10 +55,11 @@ pub fn set_grant_storing(
     if !in_tree(image, layout, caller, domain) {
         return Storing::Refused(refusal::OUTSIDE_TREE);
     }
-    let index = grant_index(image, layout, receiver, role);
-    if !may_set(image, layout, index, caller) {
+    let found = search_grant(image, layout, receiver, role);
+    if !may_set(found, caller) {
         return Storing::Refused(refusal::NOT_THE_GRANTOR);
     }
+    let index = found.row_index();
     if !has_row_for(layout, index) {
         return Storing::Refused(refusal::TABLE_FULL);
     }
@@ -113,23 +117,23 @@ pub fn remove_grant_removing(
     if role.0 == 0 {
         return Removing::Refused(refusal::OUT_OF_RANGE);
     }
-    let index = grant_index(image, layout, receiver, role);
-    let RowIndex::Existing(n) = index else {
+    let found = search_grant(image, layout, receiver, role);
+    let FoundGrant::At(n, grant) = found else {
         return Removing::Refused(refusal::NO_SUCH_ROW);
     };
-    if !may_remove(image, layout, n, caller) {
+    if !may_remove(grant, caller) {
         return Removing::Refused(refusal::NOT_THE_GRANTOR);
     }
     Removing::Row(n)
 }
 
 // Only its grantor may overwrite an existing row. A new row needs no such right.
-fn may_set(image: &[u8], layout: Layout, index: RowIndex, caller: Subject) -> bool
-    ensures { λ r. ⌜ r ≡ maySet (tablesAt layout (image .entry) .grants) (caller .0) index ⌝ }
+fn may_set(found: FoundGrant, caller: Subject) -> bool
+    ensures { λ r. let grant = grantAnswer found .row in ⌜ r ≡ (not (isThere grant) || givenBy (caller .0) grant) ⌝ }
 {
-    match index {
-        RowIndex::Existing(n) => given_by(image, layout, n, caller),
-        RowIndex::New(_) => true,
+    match found {
+        FoundGrant::At(_, grant) => grant.grantor.0 == caller.0,
+        FoundGrant::Absent(_) => true,
     }
 }
 
@@ -143,20 +147,12 @@ fn has_row_for(layout: Layout, index: RowIndex) -> bool
     grant_free(layout)
 }
 
-// The grantor of row n may remove it, and the custodian may remove any row.
-fn may_remove(image: &[u8], layout: Layout, n: u32, caller: Subject) -> bool
-    ensures { λ r. ⌜ r ≡ (givenAt (tablesAt layout (image .entry) .grants) (caller .0) n || eqb (caller .0) custodian) ⌝ }
+// The grantor of a grant may remove it, and the custodian may remove any.
+fn may_remove(grant: GrantRow, caller: Subject) -> bool
+    ensures { λ r. ⌜ r ≡ (givenBy (caller .0) (some grant) || eqb (caller .0) custodian) ⌝ }
 {
-    if given_by(image, layout, n, caller) {
+    if grant.grantor.0 == caller.0 {
         return true;
     }
     caller.0 == CUSTODIAN
-}
-
-// Whether this grantor gave row n.
-fn given_by(image: &[u8], layout: Layout, n: u32, grantor: Subject) -> bool
-    ensures { λ r. ⌜ r ≡ givenAt (tablesAt layout (image .entry) .grants) (grantor .0) n ⌝ }
-{
-    let row = grant_at(image, layout, n);
-    row.grantor.0 == grantor.0
 }

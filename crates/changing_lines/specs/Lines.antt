@@ -2,6 +2,7 @@
 use mathlib.Core.List.{List, [], _∷_}
 use mathlib.Core.Path.{_≡_, refl, _∙_}
 use Prim.Native.Nat.{ℕ}
+use lib.Dec.{T}
 use lib.ListN.{getD}
 use mir.Syntax.{w8}
 use mir.Val.{Fits}
@@ -10,11 +11,12 @@ use Rattle.model.specs.declared.Layout.{Layout}
 use Rattle.model.specs.declared.LineRow.{LineRow}
 use Rattle.model.specs.declared.Opened.{Opened}
 use Rattle.model.specs.declared.Opened.the-variants.{With}
-use Rattle.model.specs.Sorted.{insertionIndex}
+use Rattle.model.specs.Sorted.{ascending, insertionIndex}
 use Rattle.model.specs.Image.{layoutOf, tablesBy, tables, widthOf, lineFormat, lineKey, lineRow, noLine, encode}
 use Rattle.model.specs.Calls.{withLines, after}
 use Rattle.model.specs.Calls.Change.{setLine, removeLine}
-use Rattle.model.specs.Questions.{firstNo, questions, answer, opened, act}
+use Rattle.model.specs.Questions.{firstNo, questions, answer, opened, Accepted, act}
+use Rattle.laws.specs.Kept.{lines-ascending}
 use Rattle.laws.specs.Back.{tables-well-formed}
 use Rattle.laws.specs.Opens.{layout-with}
 use Rattle.search.specs.declared.RowIndex.{RowIndex}
@@ -32,6 +34,9 @@ module _ (img : List ℕ) (o : Opened) (is : o ≡ opened img) (lay : Layout) (c
   there : lay ≡ layoutOf img
   there = layout-with img o is lay case
 
+  lines-sorted : Accepted img → T (ascending lineKey (tables img .lines))
+  lines-sorted accepted = lines-ascending (tables img) (tables-well-formed img accepted .lines-hold)
+
   pub line-set : (c r l k s v : ℕ) (asked : Storing) (index : RowIndex) (x : LineRow)
       → asked ≡ storing (firstNo (questions (tablesBy lay img) (setLine c r l k s v)))
       (rowIndex lineKey (l ∷ k ∷ s ∷ []) (tablesBy lay img .lines))
@@ -47,7 +52,7 @@ module _ (img : List ℕ) (o : Opened) (is : o ≡ opened img) (lay : Layout) (c
       (λ rows. encode (withLines (tables img) rows))
       (lines-stored img)
       (setLine c r l k s v)
-      a answered m said bytes new lineKey noLine (lineRow l k s v) index refl
+      a answered m said bytes new lineKey noLine lines-sorted (lineRow l k s v) index refl
       (λ passed. passed .1 .1 .1 .1 .1 .0)
       (rw there at
       (store-index (firstNo (questions (tablesBy lay img) (setLine c r l k s v)))
@@ -68,7 +73,7 @@ module _ (img : List ℕ) (o : Opened) (is : o ≡ opened img) (lay : Layout) (c
       (λ rows. encode (withLines (tables img) rows))
       (lines-stored img)
       (removeLine c r l k s)
-      a answered m said bytes new lineKey noLine (l ∷ k ∷ s ∷ []) n refl
+      a answered m said bytes new lineKey noLine lines-sorted (l ∷ k ∷ s ∷ []) n refl
       (λ passed. passed .1 .1 .1 .1 .1 .0)
       (λ accepted. tables-well-formed img accepted .lines-capacity)
       (rw there at

@@ -24,8 +24,9 @@ use model::needed_position;
 use model::refusal;
 use permission::decision::permissions;
 use search::RowIndex;
+use search::lines::FoundLine;
 use search::lines::kind_fits;
-use search::lines::line_index;
+use search::lines::search_line;
 use store::Removing;
 use store::Storing;
 use tables::free::line_free;
@@ -59,7 +60,8 @@ pub fn set_line_storing(
     ) {
         return Storing::Refused(refusal::NOT_PERMITTED);
     }
-    let index = line_index(image, layout, list, kind, subject);
+    let found = search_line(image, layout, list, kind, subject);
+    let index = found.row_index();
     if !has_row_for(layout, index) {
         return Storing::Refused(refusal::TABLE_FULL);
     }
@@ -92,10 +94,10 @@ pub fn remove_line_removing(
     ) {
         return Removing::Refused(refusal::NOT_PERMITTED);
     }
-    let index = line_index(image, layout, list, kind, subject);
-    match index {
-        RowIndex::Existing(n) => Removing::Row(n),
-        RowIndex::New(_) => Removing::Refused(refusal::NO_SUCH_ROW),
+    let found = search_line(image, layout, list, kind, subject);
+    match found {
+        FoundLine::At(n, _) => Removing::Row(n),
+        FoundLine::Absent(_) => Removing::Refused(refusal::NO_SUCH_ROW),
     }
 }
 

@@ -46,7 +46,7 @@ module _ {A : Type 0} (key : A → List ℕ) (Good : A → Type 0) (cap : ℕ) (
   rows-put : (r : A) → Good r → T (isThere (find key (key r) rows) || ltb (length rows) cap) → SortedRows key Good cap (put key r rows)
   rows-put r good free =
       record {
-        within-capacity = put-fits key r rows cap (old .within-capacity) free;
+        within-capacity = put-fits key r rows cap (old .sorted) (old .within-capacity) free;
         all-good = All-put key Good r rows good (old .all-good);
         sorted = ascending-put key r rows (old .sorted);
       }

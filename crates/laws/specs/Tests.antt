@@ -2,7 +2,7 @@
 use mathlib.Core.Bool.{Bool, true, false, _&&_, _||_, not, and-true}
 use mathlib.Core.List.{List, [], _∷_, _++_}
 use mathlib.Core.Logic.{_⊎_, _≢_}
-use mathlib.Core.Option.{some, Option·none-ne-some}
+use mathlib.Core.Option.{none, some, Option·none-ne-some}
 use mathlib.Core.Path.{_≡_, refl, sym, _∙_}
 use Prim.Native.Nat.{ℕ, zero, suc, _<_, _≤_}
 use native.Mathlib.Nat.{le-of-suc-le-suc, not-suc-le-zero}
@@ -219,3 +219,15 @@ module _ {A : Type 0} where
     All-index [] n r all at = absurd (Option·none-ne-some r at)
     All-index (x ∷ xs) zero r all at = let is : x ≡ r = cc in rw is at (all .0)
     All-index (x ∷ xs) (suc n) r all at = All-index xs n r (all .1) at
+
+  -- A row by its index: past the end there is none.
+
+  pub index-past : (xs : List A) (n : ℕ) → length xs ≤ n → getElem? xs n ≡ none
+  index-past [] n h = refl
+  index-past (x ∷ xs) zero h = absurd (not-suc-le-zero h)
+  index-past (x ∷ xs) (suc n) h = index-past xs n (le-of-suc-le-suc h)
+
+  pub index-there : (xs : List A) (n : ℕ) (d : A) → n < length xs → getElem? xs n ≡ some (getD xs n d)
+  index-there [] n d h = absurd (not-suc-le-zero h)
+  index-there (x ∷ xs) zero d h = refl
+  index-there (x ∷ xs) (suc n) d h = index-there xs n d (le-of-suc-le-suc h)

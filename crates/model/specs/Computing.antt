@@ -1,7 +1,7 @@
 -- One name for the definitions that are unfolded when a call is computed on tables written out in full. A theorem that is
 -- proved by computation says `unfolding computing`.
 use Rattle.model.specs.Lists.{howMany, ofEach}
-use Rattle.model.specs.Sorted.{find, put, cut, ascending}
+use Rattle.model.specs.Sorted.{ascending, search, put, cut}
 use Rattle.model.specs.Tree.{climbs, inTree}
 use Rattle.model.specs.WhoAndWhat.{has}
 use Rattle.model.specs.Image.{fieldAt, layoutOf, rowsIn, tablesBy, blockOf, encode, subjectsHold, itemsHold, linesHold, grantsHold}
@@ -13,7 +13,7 @@ use Rattle.model.specs.Questions.{firstNo, imageQuestions, askQuestions,
 use Rattle.model.specs.Questions.{check, ask, explain, countHolders, act}
 
 unfoldable pub computing : Unit {0}
-unfolding howMany ofEach find put cut ascending climbs inTree has
+unfolding howMany ofEach ascending search put cut climbs inTree has
     fieldAt layoutOf rowsIn tablesBy blockOf encode
     subjectsHold itemsHold linesHold grantsHold headerRules tableRules layoutRules unusedRules
     groupWithin groupLine groupRule ownRule ownerRule decidingRule everyoneSet partOn

@@ -10,8 +10,6 @@ use Rattle.model.specs.declared.LineRow.{LineRow}
 use Rattle.model.specs.declared.Explanation.{Explanation}
 use Rattle.model.specs.declared.Rule.{Rule}
 use Rattle.model.specs.declared.Rule.the-variants.{Custodian, OwnerLine, OwnLine, GroupLine, NothingFound}
-use Rattle.model.specs.declared.SoughtLine.{SoughtLine}
-use Rattle.model.specs.declared.SoughtLine.the-variants.{Line, NoLine}
 use Rattle.model.specs.declared.SoughtGrant.{SoughtGrant}
 use Rattle.model.specs.declared.SoughtGrant.the-variants.{Grant, NoGrant}
 use Rattle.model.specs.Lists.{orElse}
@@ -25,11 +23,6 @@ use Rattle.model.specs.Image.{grantKey, lineKey, parentIn, privilegesIn,
 abbrev pub lineIn : List LineRow → ℕ → ℕ → ℕ → Option LineRow
 lineIn lines zero kind s = none
 lineIn lines (suc a) kind s = find lineKey (suc a ∷ kind ∷ s ∷ []) lines
-
--- what a search in the code answers, as a line that may be missing
-abbrev pub foundLine : SoughtLine → Option LineRow
-foundLine (Line l) = some l
-foundLine NoLine = none
 
 abbrev pub lineSet : Option LineRow → ℕ
 lineSet none = 0
@@ -118,7 +111,7 @@ abbrev pub grantIn : List GrantRow → ℕ → ℕ → Option GrantRow
 grantIn grants s zero = none
 grantIn grants s (suc r) = find grantKey (s ∷ suc r ∷ []) grants
 
--- what a search in the code answers, as a grant that may be missing
+-- the code's answer, as a grant that may be missing
 abbrev pub foundGrant : SoughtGrant → Option GrantRow
 foundGrant (Grant g) = some g
 foundGrant NoGrant = none

@@ -59,12 +59,7 @@ pub enum Rule {
     NothingFound,
 }
 
-// What a search for a line or for a grant answers: the row, or that there is none.
-pub enum SoughtLine {
-    Line(LineRow),
-    NoLine,
-}
-
+// The grant that a subject holds, or might hold, under a role; or that there is none.
 pub enum SoughtGrant {
     Grant(GrantRow),
     NoGrant,
@@ -245,6 +240,8 @@ impl LineRow {
     pub const OWNER: u32 = 2;
 
     pub const EVERYONE: u32 = 3;
+    // How many kinds there are: no line has this one.
+    pub const KINDS: u32 = 4;
 
     pub fn new(list: Item, kind: u32, subject: Subject, privileges: Privileges) -> LineRow
         ensures { λ r. ⌜ r ≡ lineRow (list .0) kind (subject .0) privileges ⌝ }

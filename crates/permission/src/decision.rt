@@ -15,7 +15,8 @@ use model::Subject;
 use model::intersection;
 use model::union;
 use rows::read::item_at;
-use search::grants::find_grant;
+use search::grants::FoundGrant;
+use search::grants::search_grant;
 use tables::subjects::privileges_of;
 
 // The grant of a claimed role. Role 0 means no role.
@@ -25,7 +26,11 @@ pub fn grant_of(image: &[u8], layout: Layout, subject: Subject, role: Role) -> S
     if role.0 == 0 {
         return SoughtGrant::NoGrant;
     }
-    find_grant(image, layout, subject, role)
+    let found = search_grant(image, layout, subject, role);
+    match found {
+        FoundGrant::At(_, grant) => SoughtGrant::Grant(grant),
+        FoundGrant::Absent(_) => SoughtGrant::NoGrant,
+    }
 }
 
 pub fn operations_under(

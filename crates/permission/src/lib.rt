@@ -2,5 +2,6 @@
 // function checks the image.
 pub mod decision;
 pub mod explanation;
+mod groups;
 pub mod lines;
 pub mod parts;

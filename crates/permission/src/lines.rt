@@ -3,11 +3,10 @@
 // cuts out of the image.
 ghost use mathlib.Core.Logic.{_≢_};
 ghost use mathlib.Core.Path.{_≡_};
-ghost use lib.ListN.{getElem?};
 ghost use Rattle.model.specs.Image.{everyoneKind, parentIn};
-ghost use Rattle.model.specs.Permission.{lineIn, lineSet, groupLine, groupRule, ownRule, ownerRule, ruleOn, everyoneOn, partOn};
-ghost use Rattle.permission.specs.Climbing.{climbingLayout};
+ghost use Rattle.model.specs.Permission.{lineIn, lineSet, ownRule, ownerRule, ruleOn, everyoneOn, partOn};
 ghost use Rattle.model.specs.Lent.{tablesAt};
+use crate::groups::group_rule;
 use model::CUSTODIAN;
 use model::Item;
 use model::ItemRow;
@@ -15,16 +14,11 @@ use model::Layout;
 use model::LineRow;
 use model::Privileges;
 use model::Rule;
-use model::SoughtLine;
 use model::Subject;
-use model::Table;
 use model::union;
-use rows::read::line_at;
-use search::RowIndex;
-use search::lines::find_line;
-use search::lines::line_index;
+use search::lines::FoundLine;
+use search::lines::search_line;
 use sizes::all_privileges;
-use tables::subjects::parent_of;
 
 // The lines that apply to a subject on an item: the rule that decides, with its line, and what the line for everyone adds.
 pub struct AppliedLines {
@@ -87,10 +81,10 @@ fn everyone_set(image: &[u8], layout: Layout, list: Item) -> Privileges
     requires { ⌜ list .0 ≢ 0 ⌝ }
     ensures { λ r. ⌜ r ≡ lineSet (lineIn (tablesAt layout (image .entry) .lines) (list .0) everyoneKind 0) ⌝ }
 {
-    let found = find_line(image, layout, list, LineRow::EVERYONE, Subject(0));
+    let found = search_line(image, layout, list, LineRow::EVERYONE, Subject(0));
     match found {
-        SoughtLine::Line(line) => line.privileges,
-        SoughtLine::NoLine => 0,
+        FoundLine::At(_, line) => line.privileges,
+        FoundLine::Absent(_) => 0,
     }
 }
 
@@ -112,10 +106,10 @@ fn owner_rule(image: &[u8], layout: Layout, subject: Subject, list: Item) -> Rul
     ensures { λ r. let t = tablesAt layout (image .entry) in
         ⌜ r ≡ ownerRule (parentIn (t .subjects)) (t .lines) (subject .0) (list .0) ⌝ }
 {
-    let found = find_line(image, layout, list, LineRow::OWNER, Subject(0));
+    let found = search_line(image, layout, list, LineRow::OWNER, Subject(0));
     match found {
-        SoughtLine::Line(line) => Rule::OwnerLine(line),
-        SoughtLine::NoLine => group_rule(image, layout, subject, list),
+        FoundLine::At(_, line) => Rule::OwnerLine(line),
+        FoundLine::Absent(_) => group_rule(image, layout, subject, list),
     }
 }
 
@@ -125,98 +119,9 @@ fn own_rule(image: &[u8], layout: Layout, subject: Subject, list: Item) -> Rule
     ensures { λ r. let t = tablesAt layout (image .entry) in
         ⌜ r ≡ ownRule (parentIn (t .subjects)) (t .lines) (subject .0) (list .0) ⌝ }
 {
-    let found = find_line(image, layout, list, LineRow::ITSELF, subject);
+    let found = search_line(image, layout, list, LineRow::ITSELF, subject);
     match found {
-        SoughtLine::Line(line) => Rule::OwnLine(line),
-        SoughtLine::NoLine => group_rule(image, layout, subject, list),
-    }
-}
-
-// The rule by which groups decide: the lowest group line above a subject, or that nothing was found.
-fn group_rule(image: &[u8], layout: Layout, subject: Subject, list: Item) -> Rule
-    requires { ⌜ list .0 ≢ 0 ⌝ }
-    ensures { λ r. let t = tablesAt layout (image .entry) in
-        ⌜ r ≡ groupRule (parentIn (t .subjects)) (t .lines) (subject .0) (list .0) ⌝ }
-{
-    let subjects = layout.subjects;
-    let lines = layout.lines;
-    let n = group_index(
-        image,
-        subjects.used,
-        subjects.start,
-        lines.used,
-        lines.start,
-        subject,
-        list,
-    );
-    if lines.used <= n {
-        return Rule::NothingFound;
-    }
-    Rule::GroupLine(line_at(image, layout, n))
-}
-
-// The index of that line, or the number of lines in use if there is none. The search goes up by recursion on the subject's
-// number, which falls: a parent that is not lower ends the search. It is handed plain numbers and answers one, because
-// every level stays on the stack and a chain of groups may have thousands of levels.
-fn group_index(
-    image: &[u8],
-    subjects_used: u32,
-    subjects_start: u32,
-    lines_used: u32,
-    lines_start: u32,
-    subject: Subject,
-    list: Item,
-) -> u32
-    requires { ⌜ list .0 ≢ 0 ⌝ }
-    ensures { λ r. let t = tablesAt (climbingLayout «subjects_used» «subjects_start» «lines_used» «lines_start») (image .entry) in
-        ⌜ getElem? (t .lines) r ≡ groupLine (parentIn (t .subjects)) (t .lines) (subject .0) (list .0) ⌝ }
-{
-    let layout = climbing_layout(subjects_used, subjects_start, lines_used, lines_start);
-    let parent = parent_of(image, layout, subject);
-    if subject.0 <= parent.0 {
-        return lines_used;
-    }
-    let index = line_index(image, layout, list, LineRow::GROUP, parent);
-    match index {
-        RowIndex::Existing(n) => n,
-        RowIndex::New(_) => group_index(
-            image,
-            subjects_used,
-            subjects_start,
-            lines_used,
-            lines_start,
-            parent,
-            list,
-        ),
-    }
-}
-
-// As much of a layout as the group search reads: the rows in use and the offsets of the subjects and of the lines.
-fn climbing_layout(
-    subjects_used: u32,
-    subjects_start: u32,
-    lines_used: u32,
-    lines_start: u32,
-) -> Layout
-    ensures { λ r. ⌜ r ≡ climbingLayout «subjects_used» «subjects_start» «lines_used» «lines_start» ⌝ }
-{
-    let none = Table {
-        used: 0,
-        start: 0,
-        end: 0,
-    };
-    Layout {
-        subjects: Table {
-            used: subjects_used,
-            start: subjects_start,
-            end: 0,
-        },
-        grants: none,
-        lines: Table {
-            used: lines_used,
-            start: lines_start,
-            end: 0,
-        },
-        items: none,
+        FoundLine::At(_, line) => Rule::OwnLine(line),
+        FoundLine::Absent(_) => group_rule(image, layout, subject, list),
     }
 }

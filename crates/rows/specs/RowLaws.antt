@@ -53,7 +53,7 @@ pub product-near : (k n : ℕ) → n ≤ 32 → k * n ≤ k * 32
 product-near k n h = mul-le-mul-left k h
 
 -- Fields read from no bytes are 0.
-fields-none : (ws : List ℕ) (at : ℕ) → fieldsAt ws [] at ≡ replicate (length ws) 0
+pub fields-none : (ws : List ℕ) (at : ℕ) → fieldsAt ws [] at ≡ replicate (length ws) 0
 fields-none [] at = refl
 fields-none (w ∷ ws) at = rw (field-none w at, fields-none ws (at + w))
   where

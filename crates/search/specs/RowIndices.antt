@@ -1,16 +1,19 @@
--- The row index of a key in its sorted table, by the definitions of `model`.
+-- The row index of a key in its sorted table: what the search for the key answers, without the row.
 use mathlib.Core.Bool.{Bool, true, false, cond}
 use mathlib.Core.List.{List}
+use Prim.Native.Nat.{ℕ}
 use Rattle.model.specs.Lists.{isThere}
-use Rattle.model.specs.Sorted.{find, insertionIndex}
+use Rattle.model.specs.Sorted.{Found, search}
 use Rattle.search.specs.declared.RowIndex.{RowIndex}
 use Rattle.search.specs.declared.RowIndex.the-variants.{Existing, New}
-use Prim.Native.Nat.{ℕ}
 
 abbrev pub isExisting : RowIndex → Bool
 isExisting (Existing n) = true
 isExisting (New n) = false
 
--- the index of the row that has the key, or the insertion index of a new row
+-- the index of the row that is there, or the insertion index of a new row
+abbrev pub rowIndexOf : {A : Type 0} → Found A → RowIndex
+rowIndexOf f = cond (isThere (f .row)) (Existing (f .index)) (New (f .index))
+
 abbrev pub rowIndex : {A : Type 0} → (A → List ℕ) → List ℕ → List A → RowIndex
-rowIndex key k xs = cond (isThere (find key k xs)) (Existing (insertionIndex key k xs)) (New (insertionIndex key k xs))
+rowIndex key k xs = rowIndexOf (search key k xs)

@@ -2,6 +2,7 @@
 // image and a layout, answers from the tables that the layout cuts out of the image, and is total for any layout. The
 // other functions compare a key or look at a kind.
 ghost use mathlib.Core.Path.{_≡_};
+ghost use Rattle.model.specs.Sorted.{middle};
 ghost use Rattle.search.specs.RowIndices.{isExisting};
 
 pub mod grants;
@@ -23,4 +24,14 @@ impl RowIndex {
             RowIndex::New(_) => false,
         }
     }
+}
+
+// The index half way between two. A search that goes on at one side of it has fewer rows left.
+pub fn middle_index(first: u32, end: u32) -> u32
+    ensures { λ r. ⌜ r ≡ middle first end ⌝ }
+{
+    if end <= first {
+        return first;
+    }
+    first + (end - first) / 2
 }

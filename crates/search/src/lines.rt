@@ -1,18 +1,46 @@
 // Lines by key: list, then kind, then subject.
 ghost use mathlib.Core.List.{[], _∷_};
 ghost use mathlib.Core.Path.{_≡_};
-ghost use Rattle.model.specs.Sorted.{before, same, insertionIndex, find};
+ghost use Rattle.model.specs.Sorted.{before, same, search};
 ghost use Rattle.model.specs.Image.{lineKey, kindFits};
-ghost use Rattle.search.specs.RowIndices.{rowIndex};
-ghost use Rattle.model.specs.Permission.{foundLine};
+ghost use Rattle.search.specs.Answers.{lineAnswer};
+ghost use Rattle.search.specs.RowIndices.{rowIndexOf};
 ghost use Rattle.model.specs.Lent.{tablesAt};
 use crate::RowIndex;
+use crate::middle_index;
 use model::Item;
 use model::Layout;
 use model::LineRow;
-use model::SoughtLine;
 use model::Subject;
-use rows::read::line_at;
+use rows::read::line_among;
+use rows::read::line_rows;
+
+// What the search for a line answers: the index of the row with the key, and that row; or, where no row has the key, its
+// insertion index.
+pub enum FoundLine {
+    At(u32, LineRow),
+    Absent(u32),
+}
+
+impl FoundLine {
+    pub fn insertion_index(self) -> u32
+        ensures { λ r. ⌜ r ≡ lineAnswer self .index ⌝ }
+    {
+        match self {
+            FoundLine::At(n, _) => n,
+            FoundLine::Absent(n) => n,
+        }
+    }
+
+    pub fn row_index(self) -> RowIndex
+        ensures { λ r. ⌜ r ≡ rowIndexOf (lineAnswer self) ⌝ }
+    {
+        match self {
+            FoundLine::At(n, _) => RowIndex::Existing(n),
+            FoundLine::Absent(n) => RowIndex::New(n),
+        }
+    }
+}
 
 // The row's key is lower than this key.
 pub fn line_before(row: LineRow, list: Item, kind: u32, subject: Subject) -> bool
@@ -53,60 +81,32 @@ pub fn kind_fits(kind: u32, subject: Subject) -> bool
     subject.0 == 0
 }
 
-// The insertion index of a key: the number of rows with a lower key. The pass ends at the first row whose key is not lower.
-pub fn line_insertion_index(
+// The search for a key. It halves the table: the row in the middle shows on which side of it to go on. So it ends at the row
+// with the key, or at the first one beyond.
+pub fn search_line(
     image: &[u8],
     layout: Layout,
     list: Item,
     kind: u32,
     subject: Subject,
-) -> u32
-    ensures { λ r. ⌜ r ≡ insertionIndex lineKey (list .0 ∷ kind ∷ subject .0 ∷ []) (tablesAt layout (image .entry) .lines) ⌝ }
+) -> FoundLine
+    ensures { λ r. ⌜ lineAnswer r ≡ search lineKey (list .0 ∷ kind ∷ subject .0 ∷ []) (tablesAt layout (image .entry) .lines) ⌝ }
 {
+    let rows = line_rows(image, layout);
     let table = layout.lines;
-    let used = table.used;
-    let mut n = 0;
-    while n < used {
-        if !line_before(line_at(image, layout, n), list, kind, subject) {
-            return n;
+    let mut first = 0;
+    let mut end = table.used;
+    while first < end {
+        let middle = middle_index(first, end);
+        let row = line_among(rows, layout, middle);
+        if line_before(row, list, kind, subject) {
+            first = middle + 1;
+        } else {
+            if is_line(row, list, kind, subject) {
+                return FoundLine::At(middle, row);
+            }
+            end = middle;
         }
-        n += 1;
     }
-    n
-}
-
-pub fn find_line(
-    image: &[u8],
-    layout: Layout,
-    list: Item,
-    kind: u32,
-    subject: Subject,
-) -> SoughtLine
-    ensures { λ r. ⌜ foundLine r ≡ find lineKey (list .0 ∷ kind ∷ subject .0 ∷ []) (tablesAt layout (image .entry) .lines) ⌝ }
-{
-    let table = layout.lines;
-    let index = line_insertion_index(image, layout, list, kind, subject);
-    if table.used <= index {
-        return SoughtLine::NoLine;
-    }
-    let row = line_at(image, layout, index);
-    if !is_line(row, list, kind, subject) {
-        return SoughtLine::NoLine;
-    }
-    SoughtLine::Line(row)
-}
-
-// The row index of a key. One search finds it, and the questions of a call and its change share it.
-pub fn line_index(image: &[u8], layout: Layout, list: Item, kind: u32, subject: Subject) -> RowIndex
-    ensures { λ r. ⌜ r ≡ rowIndex lineKey (list .0 ∷ kind ∷ subject .0 ∷ []) (tablesAt layout (image .entry) .lines) ⌝ }
-{
-    let table = layout.lines;
-    let index = line_insertion_index(image, layout, list, kind, subject);
-    if table.used <= index {
-        return RowIndex::New(index);
-    }
-    if !is_line(line_at(image, layout, index), list, kind, subject) {
-        return RowIndex::New(index);
-    }
-    RowIndex::Existing(index)
+    FoundLine::Absent(first)
 }

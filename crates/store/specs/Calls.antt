@@ -13,7 +13,7 @@ use Rattle.model.specs.declared.Answer.{Answer}
 use Rattle.model.specs.declared.ItemRow.{ItemRow}
 use Rattle.model.specs.declared.Table.{Table}
 use Rattle.model.specs.Lists.{isThere}
-use Rattle.model.specs.Sorted.{find, insertionIndex, put, cut}
+use Rattle.model.specs.Sorted.{ascending, find, insertionIndex, put, cut}
 use Rattle.model.specs.Image.{Format, layoutOf, tablesBy, tables, rowsIn, itemUsed, encode}
 use Rattle.model.specs.Calls.{Change, withItems, setItem, after}
 use Rattle.model.specs.Questions.{questions, answer, Accepted, act}
@@ -115,7 +115,7 @@ module _ {A : Type 0} (f : Format A) (table : Table) (counter cap : ℕ) (img : 
       done e (appended f table counter cap img bytesFor (stored accepted) x (free (was-passed img c a answered m said)) ∙ sym leaves-so)
 
   -- a row stored at its row index in a sorted table, and one removed from it; d is any row
-  module _ (key : A → List ℕ) (d : A) where
+  module _ (key : A → List ℕ) (d : A) (sorted : Accepted img → T (ascending key rows)) where
     pub row-set : (x : A) (index : RowIndex)
         → encode (after (tables img) c) ≡ bytesFor (put key x rows)
         → (Passed (questions (tables img) c) → T (isThere (find key (key x) rows) || ltb (length rows) cap))
@@ -124,7 +124,7 @@ module _ {A : Type 0} (f : Format A) (table : Table) (counter cap : ℕ) (img : 
         → new ≡ act img c .image
     row-set x index leaves-so free found e =
         done (e ∙ ap (λ (s : RowIndex). storedAt f counter table s x img) found)
-        (put-stored f key d table counter cap img bytesFor (stored accepted) x (free (was-passed img c a answered m said)) ∙ sym leaves-so)
+        (put-stored f key d table counter cap img bytesFor (stored accepted) x (sorted accepted) (free (was-passed img c a answered m said)) ∙ sym leaves-so)
 
     pub row-cut : (k : List ℕ) (n : ℕ)
         → encode (after (tables img) c) ≡ bytesFor (cut key k rows)
@@ -135,7 +135,7 @@ module _ {A : Type 0} (f : Format A) (table : Table) (counter cap : ℕ) (img : 
         → new ≡ act img c .image
     row-cut k n leaves-so there few found e =
         done (e ∙ ap (λ (i : ℕ). withoutRow f counter table i img) found)
-        (cut-stored f key d table counter cap img bytesFor (stored accepted) k (there (was-passed img c a answered m said)) (few accepted)
+        (cut-stored f key d table counter cap img bytesFor (stored accepted) k (sorted accepted) (there (was-passed img c a answered m said)) (few accepted)
         ∙ sym leaves-so)
 
 -- an item's row replaced

@@ -13,7 +13,7 @@ use Rattle.model.specs.declared.Table.{Table}
 use Rattle.model.specs.declared.Layout.{Layout}
 use Rattle.model.specs.declared.ItemRow.{ItemRow}
 use Rattle.model.specs.Lists.{All, isThere}
-use Rattle.model.specs.Sorted.{find, insertionIndex, put, cut}
+use Rattle.model.specs.Sorted.{ascending, find, insertionIndex, put, cut}
 use Rattle.model.specs.Image.{Tables, Format, Block, widthOf, widthIn, layoutOf, tables, rowsIn}
 use Rattle.model.specs.Image.{subjectFormat, grantFormat, lineFormat, itemFormat, noItem, itemUsed, blocks, blockOf, encode}
 use Rattle.model.specs.Calls.{withSubjects, withGrants, withLines, withItems, setItem}
@@ -173,27 +173,27 @@ module _ {A : Type 0} (f : Format A) (key : A → List ℕ) (d : A) (table : Tab
   abbrev xs : List A
   xs = rowsIn f table img
 
-  pub put-stored : (x : A) → T (isThere (find key (key x) xs) || ltb (length xs) cap)
+  pub put-stored : (x : A) → T (ascending key xs) → T (isThere (find key (key x) xs) || ltb (length xs) cap)
       → storedAt f counter table (rowIndex key (key x) xs) x img ≡ bytesFor (put key x xs)
-  put-stored x free = go (find key (key x) xs) refl free
+  put-stored x up free = go (find key (key x) xs) refl free
     where
       go : (o : Option A) → find key (key x) xs ≡ o → T (isThere o || ltb (length xs) cap)
           → storedAt f counter table
           (cond (isThere o) (Existing (insertionIndex key (key x) xs)) (New (insertionIndex key (key x) xs))) x img
           ≡ bytesFor (put key x xs)
       go none e u =
-          stored .row-in (insertionIndex key (key x) xs) x (index-le key (key x) xs) (ltb→lt (length xs) cap u)
-          ∙ ap bytesFor (sym (put-new key x xs e))
+          stored .row-in (insertionIndex key (key x) xs) x (index-le key (key x) xs up) (ltb→lt (length xs) cap u)
+          ∙ ap bytesFor (sym (put-new key x xs up e))
       go (some y) e u =
-          stored .row-replaced (insertionIndex key (key x) xs) d x (found-index key (key x) xs y e)
-          ∙ ap bytesFor (sym (put-over key x xs y e))
+          stored .row-replaced (insertionIndex key (key x) xs) d x (found-index key (key x) xs y up e)
+          ∙ ap bytesFor (sym (put-over key x xs y up e))
 
-  pub cut-stored : (k : List ℕ) → T (isThere (find key k xs)) → length xs ≤ cap
+  pub cut-stored : (k : List ℕ) → T (ascending key xs) → T (isThere (find key k xs)) → length xs ≤ cap
       → withoutRow f counter table (insertionIndex key k xs) img ≡ bytesFor (cut key k xs)
-  cut-stored k there few = go (find key k xs) refl there
+  cut-stored k up there few = go (find key k xs) refl there
     where
       go : (o : Option A) → find key k xs ≡ o → T (isThere o)
           → withoutRow f counter table (insertionIndex key k xs) img ≡ bytesFor (cut key k xs)
       go none e u = absurd u
       go (some y) e u =
-          stored .row-out (insertionIndex key k xs) d (found-index key k xs y e) few ∙ ap bytesFor (sym (cut-found key k xs y e))
+          stored .row-out (insertionIndex key k xs) d (found-index key k xs y up e) few ∙ ap bytesFor (sym (cut-found key k xs y up e))

@@ -118,7 +118,9 @@ module _ (t : Tables) (document : ℕ) where
               → (l x : ℕ) → lineIn (put lineKey (lineRow b k s v) (u .lines)) a l x ≡ lineIn (u .lines) a l x
           kept zero f l x = refl
           kept (suc a) f l x =
-              find-put-other lineKey (lineRow b k s v) (u .lines) (suc a ∷ l ∷ x ∷ []) (λ e. another-list (suc a) f (cc e))
+              find-put-other lineKey (lineRow b k s v) (u .lines) (suc a ∷ l ∷ x ∷ [])
+              (lines-ascending u (now .lines-hold))
+              (λ e. another-list (suc a) f (cc e))
 
       line-cut : (k s : ℕ) → Untouched t document (withLines u (cut lineKey (b ∷ k ∷ s ∷ []) (u .lines)))
       line-cut k s = lines-replaced (cut lineKey (b ∷ k ∷ s ∷ []) (u .lines)) kept
@@ -183,7 +185,7 @@ module _ (t : Tables) (document : ℕ) where
       where
         go : (grantKey x ≡ k) ⊎ (grantKey x ≢ k) → find grantKey k (put grantKey x (u .grants)) ≡ some g
         go (inl e) = absurd (another (sym (eqb→eq (g .grantor .0) (x .grantor .0) (rw (e, held) at asked))))
-        go (inr d) = find-put-other grantKey x (u .grants) k d ∙ held
+        go (inr d) = find-put-other grantKey x (u .grants) k (grants-ascending u (now .grants-hold)) d ∙ held
 
     cut-kept : (k l : List ℕ) (c : ℕ)
         → find grantKey k (u .grants) ≡ some g

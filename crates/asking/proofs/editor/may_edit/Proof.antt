@@ -1,20 +1,38 @@
--- `asking::editor::may_edit` meets its contract: its calls answer the terms of the definition, one by one.
+-- `asking::editor::may_edit` meets its contract: first the operation set, then the lines.
 use borrow.Author.Needs.{needs}
+use Rattle.asking.specs.Editors.{edit-no, edit-by-lines}
 use Rattle.asking.proofs.editor.may_edit.Statement.{statement}
 use Rattle.asking.proofs.editor.may_edit.Tie as tie
 
-permissions-under-requires : tie.Need-permissions-under-requires
-permissions-under-requires c κs = search needs
-
 needed-position-requires : tie.Need-needed-position-requires
 needed-position-requires c κs = search needs
+
+operations-under-requires : tie.Need-operations-under-requires
+operations-under-requires c κs = search needs
 
 has-requires : tie.Need-has-requires
 has-requires c κs = search needs
 
 returns : tie.Need-returns
-returns c = cc
+returns c = search edit-no
+
+objects-under-requires : tie.Need-objects-under-requires
+objects-under-requires c κs = search needs
+
+has-requires-2 : tie.Need-has-requires-2
+has-requires-2 c κs = search needs
+
+returns-2 : tie.Need-returns-2
+returns-2 c = search edit-by-lines
 
 pub may-edit-spec : {M : Type 1} → statement M
 may-edit-spec =
-    tie.close (tie.spec permissions-under-requires needed-position-requires has-requires returns)
+    tie.close
+    (tie.spec
+    needed-position-requires
+    operations-under-requires
+    has-requires
+    returns
+    objects-under-requires
+    has-requires-2
+    returns-2)

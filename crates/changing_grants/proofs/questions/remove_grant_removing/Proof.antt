@@ -2,7 +2,7 @@
 use borrow.Author.Needs.{needs}
 use Rattle.model.specs.Questions.{questions}
 use Rattle.laws.specs.Answers.{tested-no, tested-yes, asked-no, asked-yes, asked-all}
-use Rattle.search.specs.RowIndexLaws.{existing-index, existing-is-there, new-missing}
+use Rattle.search.specs.AnswerLaws.{grant-index, grant-is-there, grant-missing}
 use Rattle.store.specs.Calls.{remove-also, remove-refused, remove-at}
 use Rattle.changing_grants.specs.Questions.{no-role, a-role, remove-found}
 use Rattle.changing_grants.proofs.questions.remove_grant_removing.Statement.{statement}
@@ -26,31 +26,31 @@ returns-3 : tie.Need-returns-3
 unfolding questions
 returns-3 c = remove-also _ _ _ (search (remove-refused, asked-yes, tested-no, no-role))
 
-grant-index-requires : tie.Need-grant-index-requires
-grant-index-requires c κs = search needs
+search-grant-requires : tie.Need-search-grant-requires
+search-grant-requires c κs = search needs
 
-enum-known-index : tie.Need-enum-known-index
-enum-known-index c = search needs
+enum-known-found : tie.Need-enum-known-found
+enum-known-found c = search needs
 
 enum-told : tie.Need-enum-told
 enum-told c = search needs
 
 returns-4 : tie.Need-returns-4
 unfolding questions
-returns-4 c = remove-also _ _ _ (search (remove-refused, asked-yes, tested-yes, a-role, tested-no, new-missing) depth 6)
+returns-4 c = remove-also _ _ _ (search (remove-refused, asked-yes, tested-yes, a-role, tested-no, grant-missing) depth 6)
 
 may-remove-requires : tie.Need-may-remove-requires
 may-remove-requires c κs = search needs
 
 returns-5 : tie.Need-returns-5
 unfolding questions
-returns-5 c = remove-also _ _ _ (search (remove-refused, asked-yes, tested-yes, a-role, asked-no, existing-is-there, remove-found) depth 10)
+returns-5 c = remove-also _ _ _ (search (remove-refused, asked-yes, tested-yes, a-role, asked-no, grant-is-there, remove-found) depth 10)
 
 returns-6 : tie.Need-returns-6
 unfolding questions
 returns-6 c =
     remove-also _ _ _
-    (search (remove-at, asked-yes, tested-yes, a-role, asked-all, existing-is-there, existing-index, remove-found) depth 10)
+    (search (remove-at, asked-yes, tested-yes, a-role, asked-all, grant-is-there, grant-index, remove-found) depth 10)
 
 pub remove-grant-removing-spec : {M : Type 1} → statement M
 remove-grant-removing-spec =
@@ -61,8 +61,8 @@ remove-grant-removing-spec =
     subject-used-requires-2
     returns-2
     returns-3
-    grant-index-requires
-    enum-known-index
+    search-grant-requires
+    enum-known-found
     enum-told
     returns-4
     may-remove-requires

@@ -2,7 +2,7 @@
 use borrow.Author.Needs.{needs}
 use Rattle.model.specs.Questions.{questions}
 use Rattle.laws.specs.Answers.{tested-no, tested-yes, asked-all}
-use Rattle.search.specs.RowIndexLaws.{existing-index, existing-is-there, new-missing}
+use Rattle.search.specs.AnswerLaws.{line-index, line-is-there, line-missing}
 use Rattle.store.specs.Calls.{remove-also, remove-refused, remove-handed-on, remove-at}
 use Rattle.changing_lines.specs.Questions.{named-no, named-yes, right-no, right-yes}
 use Rattle.changing_lines.proofs.questions.remove_line_removing.Statement.{statement}
@@ -28,22 +28,22 @@ returns-2 : tie.Need-returns-2
 unfolding questions
 returns-2 c = remove-also _ _ _ (search (remove-refused, named-yes, right-no))
 
-line-index-requires : tie.Need-line-index-requires
-line-index-requires c κs = search needs
+search-line-requires : tie.Need-search-line-requires
+search-line-requires c κs = search needs
 
-enum-known-index : tie.Need-enum-known-index
-enum-known-index c = search needs
+enum-known-found : tie.Need-enum-known-found
+enum-known-found c = search needs
 
 enum-told : tie.Need-enum-told
 enum-told c = search needs
 
 returns-3 : tie.Need-returns-3
 unfolding questions
-returns-3 c = remove-also _ _ _ (search (remove-at, named-yes, right-yes, tested-yes, asked-all, existing-is-there, existing-index))
+returns-3 c = remove-also _ _ _ (search (remove-at, named-yes, right-yes, tested-yes, asked-all, line-is-there, line-index))
 
 returns-4 : tie.Need-returns-4
 unfolding questions
-returns-4 c = remove-also _ _ _ (search (remove-refused, named-yes, right-yes, tested-no, new-missing))
+returns-4 c = remove-also _ _ _ (search (remove-refused, named-yes, right-yes, tested-no, line-missing))
 
 pub remove-line-removing-spec : {M : Type 1} → statement M
 remove-line-removing-spec =
@@ -55,8 +55,8 @@ remove-line-removing-spec =
     permissions-requires
     has-requires
     returns-2
-    line-index-requires
-    enum-known-index
+    search-line-requires
+    enum-known-found
     enum-told
     returns-3
     returns-4)

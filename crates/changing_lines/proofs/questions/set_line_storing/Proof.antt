@@ -3,7 +3,7 @@ use borrow.Author.Needs.{needs}
 use Rattle.model.specs.Image.{tablesBy}
 use Rattle.model.specs.Questions.{questions}
 use Rattle.laws.specs.Answers.{asked-no, asked-yes, asked-all}
-use Rattle.search.specs.RowIndexLaws.{index-found}
+use Rattle.search.specs.AnswerLaws.{line-row-index, index-found}
 use Rattle.store.specs.Calls.{store-also, store-refused, store-handed-on, store-at}
 use Rattle.changing_lines.specs.Questions.{named-no, named-yes, right-no, right-yes}
 use Rattle.changing_lines.proofs.questions.set_line_storing.Statement.{statement}
@@ -29,19 +29,28 @@ returns-2 : tie.Need-returns-2
 unfolding questions
 returns-2 c = store-also _ _ _ (search (store-refused, named-yes, right-no))
 
-line-index-requires : tie.Need-line-index-requires
-line-index-requires c κs = search needs
+search-line-requires : tie.Need-search-line-requires
+search-line-requires c κs = search needs
+
+row-index-requires : tie.Need-row-index-requires
+row-index-requires c κs = search needs
 
 has-row-for-requires : tie.Need-has-row-for-requires
 has-row-for-requires c κs = search needs
 
 returns-3 : tie.Need-returns-3
 unfolding questions tablesBy
-returns-3 c = store-also _ _ _ (search (store-refused, named-yes, right-yes, asked-no, index-found))
+returns-3 c =
+    let sought = c .before .before .before in
+    let stored-at = line-row-index _ _ (sought .search-line .result) _ (sought .search-line .ensures) (c .before .before .row-index .ensures) in
+    store-also _ _ _ (search (store-refused, named-yes, right-yes, asked-no, index-found, stored-at))
 
 returns-4 : tie.Need-returns-4
 unfolding questions tablesBy
-returns-4 c = store-also _ _ _ (search (store-at, named-yes, right-yes, asked-yes, asked-all, index-found))
+returns-4 c =
+    let sought = c .before .before .before in
+    let stored-at = line-row-index _ _ (sought .search-line .result) _ (sought .search-line .ensures) (c .before .before .row-index .ensures) in
+    store-also _ _ _ (search (store-at, named-yes, right-yes, asked-yes, asked-all, index-found, stored-at))
 
 pub set-line-storing-spec : {M : Type 1} → statement M
 set-line-storing-spec =
@@ -53,7 +62,8 @@ set-line-storing-spec =
     permissions-requires
     has-requires
     returns-2
-    line-index-requires
+    search-line-requires
+    row-index-requires
     has-row-for-requires
     returns-3
     returns-4)

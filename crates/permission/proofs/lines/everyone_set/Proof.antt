@@ -4,8 +4,8 @@ use Rattle.permission.specs.Searches.{everyone-there, everyone-missing}
 use Rattle.permission.proofs.lines.everyone_set.Statement.{statement}
 use Rattle.permission.proofs.lines.everyone_set.Tie as tie
 
-find-line-requires : tie.Need-find-line-requires
-find-line-requires c κs = search needs
+search-line-requires : tie.Need-search-line-requires
+search-line-requires c κs = search needs
 
 enum-known-found : tie.Need-enum-known-found
 enum-known-found c = search needs
@@ -21,4 +21,4 @@ returns-2 c = search everyone-missing
 
 pub everyone-set-spec : {M : Type 1} → statement M
 everyone-set-spec =
-    tie.close (tie.spec find-line-requires enum-known-found enum-told returns returns-2)
+    tie.close (tie.spec search-line-requires enum-known-found enum-told returns returns-2)

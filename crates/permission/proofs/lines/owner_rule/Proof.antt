@@ -4,8 +4,8 @@ use Rattle.permission.specs.Searches.{owner-there, owner-missing}
 use Rattle.permission.proofs.lines.owner_rule.Statement.{statement}
 use Rattle.permission.proofs.lines.owner_rule.Tie as tie
 
-find-line-requires : tie.Need-find-line-requires
-find-line-requires c κs = search needs
+search-line-requires : tie.Need-search-line-requires
+search-line-requires c κs = search needs
 
 enum-known-found : tie.Need-enum-known-found
 enum-known-found c = search needs
@@ -25,4 +25,4 @@ returns-2 c = search owner-missing
 pub owner-rule-spec : {M : Type 1} → statement M
 owner-rule-spec =
     tie.close
-    (tie.spec find-line-requires enum-known-found enum-told group-rule-requires returns returns-2)
+    (tie.spec search-line-requires enum-known-found enum-told group-rule-requires returns returns-2)
