@@ -133,6 +133,7 @@ pub fn lines_hold(image: &[u8], layout: Layout) -> bool
     true
 }
 
+// The kind is asked last, which was measured (docs/DECISIONS.md, D9).
 fn line_fits(image: &[u8], layout: Layout, row: LineRow) -> bool
     ensures { λ r. let t = tablesAt layout (image .entry) in
         ⌜ r ≡ lineRules (t .subjects) (t .items) row ⌝ }
@@ -140,10 +141,10 @@ fn line_fits(image: &[u8], layout: Layout, row: LineRow) -> bool
     if !is_list(image, layout, row.list) {
         return false;
     }
-    if !kind_fits(row.kind, row.subject) {
+    if !subject_used(image, layout, row.subject) {
         return false;
     }
-    subject_used(image, layout, row.subject)
+    kind_fits(row.kind, row.subject)
 }
 
 // Grants hold their rules and ascend. A row that holds its rules has a role, so its key comes after that of a row of zeros.
