@@ -68,7 +68,7 @@ fn is_zero(bytes: &[u8]) -> bool
     seen == 0
 }
 
-// Bytes that are fewer than a word. A table that is laid out never has so few of unused rows.
+// Fewer bytes than a word. Unused rows of a table that is laid out are never so few.
 fn short_is_zero(bytes: &[u8]) -> bool
     ensures { λ r. ⌜ r ≡ zeros (now (bytes .entry)) ⌝ }
 {
@@ -82,7 +82,7 @@ fn short_is_zero(bytes: &[u8]) -> bool
     true
 }
 
-// Eight bytes as one number, the lowest byte first. The compiler reads it at once.
+// Eight bytes as one number, the lowest byte first, which the compiler reads at once.
 fn word(bytes: &[u8], at: usize) -> u64
     requires { ⌜ at + 8 ≤ length (now bytes) ⌝ }
     ensures { λ r. ⌜ r ≡ value (take 8 (drop at (now (bytes .entry)))) ⌝ }
