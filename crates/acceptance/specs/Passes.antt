@@ -109,27 +109,38 @@ module _ {A : Type 0} (f : Format A) (t : Table) (img : List ℕ) (d : A) (rules
   pub ascends-none : (last : A) → ((x : A) → rules x ≡ true → before (key d) (key x) ≡ true) → last ≡ d → Ascends 0 last
   ascends-none last low e = record { inside = omega arith; same-question = rw e (after-zeros low (rowsIn f t img)) }
 
-  module _ (n : ℕ) (last x : A) (a : Ascends n last) (h : n < t .used) (e : x ≡ getD (rowsIn f t img) n d)
-      (b : Bool) (r : b ≡ rules x) where
-    pub ascends-broken : not b ≡ true → false ≡ (every rules (rowsIn f t img) && ascending key (rowsIn f t img))
-    ascends-broken broken = rw (a .same-question, rows-next f t img d n x h e, ← r, not-true b broken)
+  -- c is the answer about the order, b the answer about the rules
+  module _ (n : ℕ) (last x : A) (a : Ascends n last) (h : n < t .used) (e : x ≡ getD (rowsIn f t img) n d) where
+    pub ascends-other : (c : Bool)
+        → c ≡ before (key last) (key x)
+        → not c ≡ true
+        → false ≡ (every rules (rowsIn f t img) && ascending key (rowsIn f t img))
+    unfolding ascending
+    ascends-other c l other =
+        rw (a .same-question, rows-next f t img d n x h e, ← l, not-true c other)
+        (sym (and-false (rules x && every rules (drop (suc n) (rowsIn f t img)))))
 
-    module _ (held : not b ≡ false) (c : Bool) (l : c ≡ before (key last) (key x)) where
-      pub ascends-other : not c ≡ true → false ≡ (every rules (rowsIn f t img) && ascending key (rowsIn f t img))
-      unfolding ascending
-      ascends-other other =
-          rw (a .same-question, rows-next f t img d n x h e, ← r, not-false b held, ← l, not-true c other)
-          (sym (and-false (every rules (drop (suc n) (rowsIn f t img)))))
+    pub ascends-broken : (b : Bool)
+        → b ≡ rules x
+        → not b ≡ true
+        → false ≡ (every rules (rowsIn f t img) && ascending key (rowsIn f t img))
+    ascends-broken b r broken = rw (a .same-question, rows-next f t img d n x h e, ← r, not-true b broken)
 
-      pub ascends-next : not c ≡ false → Ascends (n + 1) x
-      unfolding ascending
-      ascends-next after =
-          let one : n + 1 ≡ suc n = omega arith in
-          rw one
-          (record {
-            inside = omega arith;
-            same-question = a .same-question ∙ rw (rows-next f t img d n x h e, ← r, not-false b held, ← l, not-false c after);
-          })
+    pub ascends-next : (c : Bool)
+        → c ≡ before (key last) (key x)
+        → not c ≡ false
+        → (b : Bool)
+        → b ≡ rules x
+        → not b ≡ false
+        → Ascends (n + 1) x
+    unfolding ascending
+    ascends-next c l after b r held =
+        let one : n + 1 ≡ suc n = omega arith in
+        rw one
+        (record {
+          inside = omega arith;
+          same-question = a .same-question ∙ rw (rows-next f t img d n x h e, ← r, not-false b held, ← l, not-false c after);
+        })
 
   pub ascends-all : (n : ℕ) (last : A)
       → Ascends n last

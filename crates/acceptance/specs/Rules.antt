@@ -1,5 +1,5 @@
 -- The rules of one row, as the code tests them: on rows that it has read, and on sets that a callee answered.
-use mathlib.Core.Bool.{Bool, true, false, not, and-false, false≢true}
+use mathlib.Core.Bool.{Bool, true, false, not, _&&_, and-false, and-true, false≢true}
 use mathlib.Core.List.{List, [], _∷_}
 use mathlib.Core.Logic.{inl, inr}
 use mathlib.Core.Path.{_≡_, refl, ap, _∙_}
@@ -168,6 +168,14 @@ pub item-next : (subjects : List SubjectRow) (items : List ItemRow) (n : ℕ) (b
 item-next subjects items n b r =
     let one : n + 1 ≡ suc n = omega arith in
     rw one at r
+
+-- Lines: of the three rules the second is asked last.
+
+pub third-no : (a b c : Bool) → a ≡ true → c ≡ false → false ≡ (a && (b && (c && true)))
+third-no a b c e f = rw (e, f, and-false b)
+
+pub second-last : (a b c r : Bool) → a ≡ true → c ≡ true → r ≡ b → r ≡ (a && (b && (c && true)))
+second-last a b c r e f h = rw (e, f, and-true b) h
 
 -- Grants: a role is not 0.
 

@@ -111,7 +111,7 @@ fn item_fits(image: &[u8], layout: Layout, item: Item) -> bool
 }
 
 // Lines hold their rules and ascend. A row that holds its rules names a list, so its key comes after that of a row of
-// zeros. So the first row needs no case of its own.
+// zeros. So the first row needs no case of its own. The order is asked first, which was measured (docs/DECISIONS.md, D9).
 pub fn lines_hold(image: &[u8], layout: Layout) -> bool
     ensures { λ r. ⌜ r ≡ linesHold (tablesAt layout (image .entry)) ⌝ }
 {
@@ -121,10 +121,10 @@ pub fn lines_hold(image: &[u8], layout: Layout) -> bool
     let mut n = 0;
     while n < used {
         let row = line_at(image, layout, n);
-        if !line_fits(image, layout, row) {
+        if !line_before(last, row.list, row.kind, row.subject) {
             return false;
         }
-        if !line_before(last, row.list, row.kind, row.subject) {
+        if !line_fits(image, layout, row) {
             return false;
         }
         last = row;
@@ -133,6 +133,7 @@ pub fn lines_hold(image: &[u8], layout: Layout) -> bool
     true
 }
 
+// The kind is asked last, which was measured too.
 fn line_fits(image: &[u8], layout: Layout, row: LineRow) -> bool
     ensures { λ r. let t = tablesAt layout (image .entry) in
         ⌜ r ≡ lineRules (t .subjects) (t .items) row ⌝ }
@@ -140,10 +141,10 @@ fn line_fits(image: &[u8], layout: Layout, row: LineRow) -> bool
     if !is_list(image, layout, row.list) {
         return false;
     }
-    if !kind_fits(row.kind, row.subject) {
+    if !subject_used(image, layout, row.subject) {
         return false;
     }
-    subject_used(image, layout, row.subject)
+    kind_fits(row.kind, row.subject)
 }
 
 // Grants hold their rules and ascend. A row that holds its rules has a role, so its key comes after that of a row of zeros.
@@ -156,10 +157,10 @@ pub fn grants_hold(image: &[u8], layout: Layout) -> bool
     let mut n = 0;
     while n < used {
         let row = grant_at(image, layout, n);
-        if !grant_fits(image, layout, row) {
+        if !grant_before(last, row.receiver, row.role) {
             return false;
         }
-        if !grant_before(last, row.receiver, row.role) {
+        if !grant_fits(image, layout, row) {
             return false;
         }
         last = row;

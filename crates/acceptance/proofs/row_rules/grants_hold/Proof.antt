@@ -27,19 +27,19 @@ loop-holds c = search (ascends-none, grant-follows)
 grant-at-requires : tie.Need-grant-at-requires Inv-loop μ-loop
 grant-at-requires c κs = search needs
 
-grant-fits-requires : tie.Need-grant-fits-requires Inv-loop μ-loop
-grant-fits-requires c κs = search needs
-
-returns : tie.Need-returns Inv-loop μ-loop
-unfolding grantsHold tablesBy
-returns c = search ascends-broken
-
 grant-before-requires : tie.Need-grant-before-requires Inv-loop μ-loop
 grant-before-requires c κs = search needs
 
+returns : tie.Need-returns Inv-loop μ-loop
+unfolding grantsHold tablesBy
+returns c = search ascends-other
+
+grant-fits-requires : tie.Need-grant-fits-requires Inv-loop μ-loop
+grant-fits-requires c κs = search needs
+
 returns-2 : tie.Need-returns-2 Inv-loop μ-loop
 unfolding grantsHold tablesBy
-returns-2 c = search ascends-other
+returns-2 c = search ascends-broken
 
 -- `omega` does not find the fact that the numbers of a layout fit: it is too many steps back
 add-n : tie.Need-add-n Inv-loop μ-loop
@@ -52,12 +52,12 @@ loop-less c = omega arith
 
 loop-again : tie.Need-loop-again Inv-loop μ-loop
 loop-again c =
-    let fits = c .before .before .before in
-    let read = fits .before in
+    let before = c .before .before .before in
+    let read = before .before in
     let test = read .before in
     ascends-next _ _ _ _ _ _ _ _ _ (test .before .loop .inv) (test .loop-test .taken) (read .grant-at .ensures) _
-    (fits .grant-fits .ensures)
-    (c .before .before .if1 .left) _ (c .before .grant-before .ensures) (c .if2 .left)
+    (before .grant-before .ensures)
+    (c .before .before .if1 .left) _ (c .before .grant-fits .ensures) (c .if2 .left)
 
 returns-3 : tie.Need-returns-3 Inv-loop μ-loop
 unfolding grantsHold tablesBy
@@ -72,9 +72,9 @@ grants-hold-spec =
     new-requires
     loop-holds
     grant-at-requires
-    grant-fits-requires
-    returns
     grant-before-requires
+    returns
+    grant-fits-requires
     returns-2
     add-n
     loop-less

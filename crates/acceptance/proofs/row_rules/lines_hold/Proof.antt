@@ -27,19 +27,19 @@ loop-holds c = search (ascends-none, line-follows)
 line-at-requires : tie.Need-line-at-requires Inv-loop μ-loop
 line-at-requires c κs = search needs
 
-line-fits-requires : tie.Need-line-fits-requires Inv-loop μ-loop
-line-fits-requires c κs = search needs
-
-returns : tie.Need-returns Inv-loop μ-loop
-unfolding linesHold tablesBy
-returns c = search ascends-broken
-
 line-before-requires : tie.Need-line-before-requires Inv-loop μ-loop
 line-before-requires c κs = search needs
 
+returns : tie.Need-returns Inv-loop μ-loop
+unfolding linesHold tablesBy
+returns c = search ascends-other
+
+line-fits-requires : tie.Need-line-fits-requires Inv-loop μ-loop
+line-fits-requires c κs = search needs
+
 returns-2 : tie.Need-returns-2 Inv-loop μ-loop
 unfolding linesHold tablesBy
-returns-2 c = search ascends-other
+returns-2 c = search ascends-broken
 
 -- `omega` does not find the fact that the numbers of a layout fit: it is too many steps back
 add-n : tie.Need-add-n Inv-loop μ-loop
@@ -51,7 +51,13 @@ loop-less : tie.Need-loop-less Inv-loop μ-loop
 loop-less c = omega arith
 
 loop-again : tie.Need-loop-again Inv-loop μ-loop
-loop-again c = search ascends-next
+loop-again c =
+    let before = c .before .before .before in
+    let read = before .before in
+    let test = read .before in
+    ascends-next _ _ _ _ _ _ _ _ _ (test .before .loop .inv) (test .loop-test .taken) (read .line-at .ensures) _
+    (before .line-before .ensures)
+    (c .before .before .if1 .left) _ (c .before .line-fits .ensures) (c .if2 .left)
 
 returns-3 : tie.Need-returns-3 Inv-loop μ-loop
 unfolding linesHold tablesBy
@@ -66,9 +72,9 @@ lines-hold-spec =
     new-requires
     loop-holds
     line-at-requires
-    line-fits-requires
-    returns
     line-before-requires
+    returns
+    line-fits-requires
     returns-2
     add-n
     loop-less
