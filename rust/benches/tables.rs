@@ -62,12 +62,11 @@ fn main() -> io::Result<()> {
 
 /// Prints each row as soon as it is known.
 fn measure(case: &Case, rows: &mut Vec<Row>) -> io::Result<()> {
-    let mut add = |operation, times, search| {
+    let mut add = |operation, times| {
         let row = Row {
             image: case.image_name,
             operation,
             times,
-            search,
         };
         printing::print_row(&row);
         rows.push(row);
@@ -75,10 +74,10 @@ fn measure(case: &Case, rows: &mut Vec<Row>) -> io::Result<()> {
     for operation in &case.operations {
         assert_same_answer(case, operation);
         let times = timing::time_call(&operation.call, &case.image);
-        add(operation.name, times, operation.search);
+        add(operation.name, times);
     }
     let times = reports::time_report(&case.image)?;
-    add("report", times, case.report_search);
+    add("report", times);
     Ok(())
 }
 

@@ -13,26 +13,12 @@ pub struct Case {
     pub image_name: &'static str,
     pub image: Vec<u8>,
     pub operations: Vec<Operation>,
-    /// As `search` of an operation.
-    pub report_search: Search,
 }
 
 /// A call on that image, with its name in the table of times.
 pub struct Operation {
     pub name: &'static str,
     pub call: Call,
-    pub search: Search,
-}
-
-/// How much of the library's time goes into its row-by-row search for one line. This is set by hand.
-#[derive(Clone, Copy, PartialEq, Eq)]
-pub enum Search {
-    /// Little: no line is looked up, or only in a table of few lines.
-    Little,
-    /// All that the call takes beyond the check of the whole image, with which every call begins.
-    BesideTheCheck,
-    /// Most of it: lines are looked up for every subject.
-    Most,
 }
 
 pub fn cases() -> Vec<Case> {
@@ -51,16 +37,15 @@ fn sample_case() -> Case {
         image_name: "sample",
         image: tables.image(),
         operations: vec![
-            plain("check", Call::Check),
-            plain("permission set, under a role", set_of(4, 7, 2)),
-            plain("explain, under a role", explanation_of(4, 7, 2)),
-            plain("count holders", holders_on(2)),
-            plain("editor search, there is none", editor_of(1)),
-            plain("set line, overwrites", overwriting(&tables)),
-            plain("set line, inserts", inserting(&tables)),
-            plain("remove line", removing(&tables)),
+            call("check", Call::Check),
+            call("permission set, under a role", set_of(4, 7, 2)),
+            call("explain, under a role", explanation_of(4, 7, 2)),
+            call("count holders", holders_on(2)),
+            call("editor search, there is none", editor_of(1)),
+            call("set line, overwrites", overwriting(&tables)),
+            call("set line, inserts", inserting(&tables)),
+            call("remove line", removing(&tables)),
         ],
-        report_search: Search::Little,
     }
 }
 
@@ -76,25 +61,24 @@ fn mixed_case() -> Case {
         image_name: "mixed",
         image: tables.image(),
         operations: vec![
-            plain("check", Call::Check),
-            looking_up("permission set", set_of(500, NO_ROLE, item)),
-            looking_up("permission set, under a role", set_of(receiver, role, item)),
-            looking_up(
+            call("check", Call::Check),
+            call("permission set", set_of(500, NO_ROLE, item)),
+            call("permission set, under a role", set_of(receiver, role, item)),
+            call(
                 "permission set, the role counts",
                 set_of(deputy, deputy_role, item),
             ),
-            looking_up("explain", explanation_of(500, NO_ROLE, item)),
-            looking_up(
+            call("explain", explanation_of(500, NO_ROLE, item)),
+            call(
                 "explain, the role counts",
                 explanation_of(deputy, deputy_role, item),
             ),
-            searching("count holders", holders_on(item)),
-            searching("editor search, the last subject", editor_of(list)),
-            looking_up("set line, overwrites", overwriting(&tables)),
-            looking_up("set line, inserts", inserting(&tables)),
-            looking_up("remove line", removing(&tables)),
+            call("count holders", holders_on(item)),
+            call("editor search, the last subject", editor_of(list)),
+            call("set line, overwrites", overwriting(&tables)),
+            call("set line, inserts", inserting(&tables)),
+            call("remove line", removing(&tables)),
         ],
-        report_search: Search::Most,
     }
 }
 
@@ -106,24 +90,23 @@ fn chain_case() -> Case {
         image_name: "chain",
         image: tables.image(),
         operations: vec![
-            plain("check", Call::Check),
-            plain(
+            call("check", Call::Check),
+            call(
                 "permission set, half way down",
                 set_of(deepest / 2, NO_ROLE, 2),
             ),
-            plain("permission set, the deepest", set_of(deepest, NO_ROLE, 2)),
-            plain(
+            call("permission set, the deepest", set_of(deepest, NO_ROLE, 2)),
+            call(
                 "explain, half way down",
                 explanation_of(deepest / 2, NO_ROLE, 2),
             ),
-            plain("explain, the deepest", explanation_of(deepest, NO_ROLE, 2)),
-            plain("count holders", holders_on(2)),
-            plain("editor search, the last subject", editor_of(1)),
-            plain("set line, overwrites", overwriting(&tables)),
-            plain("set line, inserts", inserting(&tables)),
-            plain("remove line", removing(&tables)),
+            call("explain, the deepest", explanation_of(deepest, NO_ROLE, 2)),
+            call("count holders", holders_on(2)),
+            call("editor search, the last subject", editor_of(1)),
+            call("set line, overwrites", overwriting(&tables)),
+            call("set line, inserts", inserting(&tables)),
+            call("remove line", removing(&tables)),
         ],
-        report_search: Search::Little,
     }
 }
 
@@ -135,16 +118,15 @@ fn lines_case() -> Case {
         image_name: "lines",
         image: tables.image(),
         operations: vec![
-            plain("check", Call::Check),
-            looking_up("permission set", set_of(150, NO_ROLE, item)),
-            looking_up("explain", explanation_of(150, NO_ROLE, item)),
-            searching("count holders", holders_on(item)),
-            searching("editor search, there is none", editor_of(list)),
-            looking_up("set line, overwrites", overwriting(&tables)),
-            looking_up("set line, inserts", inserting(&tables)),
-            looking_up("remove line", removing(&tables)),
+            call("check", Call::Check),
+            call("permission set", set_of(150, NO_ROLE, item)),
+            call("explain", explanation_of(150, NO_ROLE, item)),
+            call("count holders", holders_on(item)),
+            call("editor search, there is none", editor_of(list)),
+            call("set line, overwrites", overwriting(&tables)),
+            call("set line, inserts", inserting(&tables)),
+            call("remove line", removing(&tables)),
         ],
-        report_search: Search::Most,
     }
 }
 
@@ -154,25 +136,11 @@ fn longest_report_case() -> Case {
         image_name: "longest report",
         image: images::longest_report().image(),
         operations: Vec::new(),
-        report_search: Search::Little,
     }
 }
 
-fn plain(name: &'static str, call: Call) -> Operation {
-    let search = Search::Little;
-    Operation { name, call, search }
-}
-
-/// A call that looks up a few lines in a table of many.
-fn looking_up(name: &'static str, call: Call) -> Operation {
-    let search = Search::BesideTheCheck;
-    Operation { name, call, search }
-}
-
-/// A call that looks up lines for every subject, in a table of many.
-fn searching(name: &'static str, call: Call) -> Operation {
-    let search = Search::Most;
-    Operation { name, call, search }
+fn call(name: &'static str, call: Call) -> Operation {
+    Operation { name, call }
 }
 
 fn set_of(subject: u32, role: u32, item: u32) -> Call {
