@@ -19,6 +19,7 @@ pub fn print_what_is_measured(cases: &[Case]) {
     );
     println!("Ratios: the library's time to that of the twin, and to that of the yardstick.");
     println!("Calls: best of {MOST_BATCHES} batches, of at least {FEWEST_BATCHES} where slow.");
+    println!("Line search and pass: as calls, but without the check of the image.");
     println!("Reports: best of {MOST_RUNS} whole processes, of at least {FEWEST_RUNS} where slow.");
     println!();
     print_sizes(["image", "bytes", "subjects", "grants", "lines", "items"]);
@@ -100,6 +101,11 @@ fn print_largest(side: Side, rows: &[Row]) {
         row.image,
         row.operation
     );
+}
+
+/// The time for the first row, with the pass over all rows of the same image as 1.
+pub fn print_first_row(image: &str, share: f64) {
+    println!("The first row takes {share:.3} of the time of a pass over all rows ({image}).");
 }
 
 /// A time in three digits and a unit that suits them.
