@@ -1,5 +1,5 @@
 # What people run: `make report` and `make test`, the two commands of the README; and what they stand on.
-.PHONY: report test archive install rust-test bench
+.PHONY: report test archive install timing rust-test bench
 
 # The image to report on: the sample workshop, or `make report IMAGE=path`.
 IMAGE = images/workshop.img
@@ -51,13 +51,17 @@ install: target/staticlib/libdacm.a
 	    sed -e 's|@prefix@|$(PREFIX)|' -e "s|@version@|$$version|" include/dacm.pc.in \
 	    >'$(DESTDIR)$(PREFIX)/lib/pkgconfig/dacm.pc'
 
+# A second static library, libtiming.a beside the first: the search for one line alone. Only the benchmark links it.
+timing:
+	rt staticlib timing
+
 # The Rust crate with and without its features, the benchmark, and the tests.
-rust-test: archive
+rust-test: archive timing
 	cd rust && cargo check --offline --lib --no-default-features
 	cd rust && cargo bench --offline --no-run
 	cd rust && cargo test --offline --release
 
 # The library beside two independent Rust implementations, in one run. Not in the gate.
-bench: archive
+bench: archive timing
 	rt check report
 	cd rust && cargo bench --offline --bench tables

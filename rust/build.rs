@@ -24,6 +24,10 @@ fn main() {
     println!("cargo:rustc-link-lib=static=dacm");
     // The tests link their C programs with the same archive.
     println!("cargo:rustc-env=DACM_ARCHIVE={}", archive.display());
+    // The benchmark, and nothing else, links a second archive from the same folder. It names the
+    // archive itself, so that without it all but the benchmark can be built.
+    let timing = folder.join("libtiming.a");
+    println!("cargo:rustc-env=DACM_TIMING_ARCHIVE={}", timing.display());
 }
 
 /// A folder that is not named in full is taken from this crate's folder. An empty name is none.

@@ -1,38 +1,34 @@
-//! What is measured: the images, and the calls on each.
+//! What is measured: the images, and the calls and searches on each.
 
 use crate::call::{Call, Counts};
 use crate::images;
 use crate::sample::{sample, ITSELF};
+use crate::searching::{LineSearch, Way};
 use crate::tables::Tables;
+
+/// The names of two rows that are compared with each other.
+pub const FIRST_ROW: &str = "line search, the first row";
+pub const PASS: &str = "pass over all rows";
 
 const CUSTODIAN: u32 = 0;
 const NO_ROLE: u32 = 0;
 
-/// An image and the calls that are timed on it.
+/// An image and what is timed on it.
 pub struct Case {
     pub image_name: &'static str,
     pub image: Vec<u8>,
     pub operations: Vec<Operation>,
-    /// As `search` of an operation.
-    pub report_search: Search,
 }
 
-/// A call on that image, with its name in the table of times.
+/// What is done with that image, with its name in the table of times.
 pub struct Operation {
     pub name: &'static str,
-    pub call: Call,
-    pub search: Search,
+    pub work: Work,
 }
 
-/// How much of the library's time goes into its row-by-row search for one line. This is set by hand.
-#[derive(Clone, Copy, PartialEq, Eq)]
-pub enum Search {
-    /// Little: no line is looked up, or only in a table of few lines.
-    Little,
-    /// All that the call takes beyond the check of the whole image, with which every call begins.
-    BesideTheCheck,
-    /// Most of it: lines are looked up for every subject.
-    Most,
+pub enum Work {
+    Call(Call),
+    Search(LineSearch),
 }
 
 pub fn cases() -> Vec<Case> {
@@ -51,16 +47,15 @@ fn sample_case() -> Case {
         image_name: "sample",
         image: tables.image(),
         operations: vec![
-            plain("check", Call::Check),
-            plain("permission set, under a role", set_of(4, 7, 2)),
-            plain("explain, under a role", explanation_of(4, 7, 2)),
-            plain("count holders", holders_on(2)),
-            plain("editor search, there is none", editor_of(1)),
-            plain("set line, overwrites", overwriting(&tables)),
-            plain("set line, inserts", inserting(&tables)),
-            plain("remove line", removing(&tables)),
+            call("check", Call::Check),
+            call("permission set, under a role", set_of(4, 7, 2)),
+            call("explain, under a role", explanation_of(4, 7, 2)),
+            call("count holders", holders_on(2)),
+            call("editor search, there is none", editor_of(1)),
+            call("set line, overwrites", overwriting(&tables)),
+            call("set line, inserts", inserting(&tables)),
+            call("remove line", removing(&tables)),
         ],
-        report_search: Search::Little,
     }
 }
 
@@ -76,25 +71,24 @@ fn mixed_case() -> Case {
         image_name: "mixed",
         image: tables.image(),
         operations: vec![
-            plain("check", Call::Check),
-            looking_up("permission set", set_of(500, NO_ROLE, item)),
-            looking_up("permission set, under a role", set_of(receiver, role, item)),
-            looking_up(
+            call("check", Call::Check),
+            call("permission set", set_of(500, NO_ROLE, item)),
+            call("permission set, under a role", set_of(receiver, role, item)),
+            call(
                 "permission set, the role counts",
                 set_of(deputy, deputy_role, item),
             ),
-            looking_up("explain", explanation_of(500, NO_ROLE, item)),
-            looking_up(
+            call("explain", explanation_of(500, NO_ROLE, item)),
+            call(
                 "explain, the role counts",
                 explanation_of(deputy, deputy_role, item),
             ),
-            searching("count holders", holders_on(item)),
-            searching("editor search, the last subject", editor_of(list)),
-            looking_up("set line, overwrites", overwriting(&tables)),
-            looking_up("set line, inserts", inserting(&tables)),
-            looking_up("remove line", removing(&tables)),
+            call("count holders", holders_on(item)),
+            call("editor search, the last subject", editor_of(list)),
+            call("set line, overwrites", overwriting(&tables)),
+            call("set line, inserts", inserting(&tables)),
+            call("remove line", removing(&tables)),
         ],
-        report_search: Search::Most,
     }
 }
 
@@ -106,24 +100,23 @@ fn chain_case() -> Case {
         image_name: "chain",
         image: tables.image(),
         operations: vec![
-            plain("check", Call::Check),
-            plain(
+            call("check", Call::Check),
+            call(
                 "permission set, half way down",
                 set_of(deepest / 2, NO_ROLE, 2),
             ),
-            plain("permission set, the deepest", set_of(deepest, NO_ROLE, 2)),
-            plain(
+            call("permission set, the deepest", set_of(deepest, NO_ROLE, 2)),
+            call(
                 "explain, half way down",
                 explanation_of(deepest / 2, NO_ROLE, 2),
             ),
-            plain("explain, the deepest", explanation_of(deepest, NO_ROLE, 2)),
-            plain("count holders", holders_on(2)),
-            plain("editor search, the last subject", editor_of(1)),
-            plain("set line, overwrites", overwriting(&tables)),
-            plain("set line, inserts", inserting(&tables)),
-            plain("remove line", removing(&tables)),
+            call("explain, the deepest", explanation_of(deepest, NO_ROLE, 2)),
+            call("count holders", holders_on(2)),
+            call("editor search, the last subject", editor_of(1)),
+            call("set line, overwrites", overwriting(&tables)),
+            call("set line, inserts", inserting(&tables)),
+            call("remove line", removing(&tables)),
         ],
-        report_search: Search::Little,
     }
 }
 
@@ -131,21 +124,40 @@ fn lines_case() -> Case {
     let tables = images::lines();
     let list = list_in_the_middle(&tables);
     let item = item_under(&tables, list);
+    let mut operations = vec![
+        call("check", Call::Check),
+        call("permission set", set_of(150, NO_ROLE, item)),
+        call("explain", explanation_of(150, NO_ROLE, item)),
+        call("count holders", holders_on(item)),
+        call("editor search, there is none", editor_of(list)),
+        call("set line, overwrites", overwriting(&tables)),
+        call("set line, inserts", inserting(&tables)),
+        call("remove line", removing(&tables)),
+    ];
+    operations.extend(searches(&tables));
     Case {
         image_name: "lines",
         image: tables.image(),
-        operations: vec![
-            plain("check", Call::Check),
-            looking_up("permission set", set_of(150, NO_ROLE, item)),
-            looking_up("explain", explanation_of(150, NO_ROLE, item)),
-            searching("count holders", holders_on(item)),
-            searching("editor search, there is none", editor_of(list)),
-            looking_up("set line, overwrites", overwriting(&tables)),
-            looking_up("set line, inserts", inserting(&tables)),
-            looking_up("remove line", removing(&tables)),
-        ],
-        report_search: Search::Most,
+        operations,
     }
+}
+
+/// The pass has the key of the last row, so that no pass can stop earlier.
+fn searches(tables: &Tables) -> [Operation; 4] {
+    let lines = &tables.lines.rows;
+    let key = |row: usize| {
+        let [list, kind, subject, _] = lines[row];
+        [list, kind, subject]
+    };
+    let last = lines.len() - 1;
+    let absent = absent_key(tables);
+    let lower = lines.iter().filter(|line| line[..3] < absent[..]).count();
+    [
+        search(FIRST_ROW, Way::Search, key(0), 0),
+        search("line search, the last row", Way::Search, key(last), last),
+        search("line search, an absent key", Way::Search, absent, lower),
+        search(PASS, Way::Pass, key(last), last),
+    ]
 }
 
 /// Only for its report.
@@ -154,25 +166,18 @@ fn longest_report_case() -> Case {
         image_name: "longest report",
         image: images::longest_report().image(),
         operations: Vec::new(),
-        report_search: Search::Little,
     }
 }
 
-fn plain(name: &'static str, call: Call) -> Operation {
-    let search = Search::Little;
-    Operation { name, call, search }
+fn call(name: &'static str, call: Call) -> Operation {
+    let work = Work::Call(call);
+    Operation { name, work }
 }
 
-/// A call that looks up a few lines in a table of many.
-fn looking_up(name: &'static str, call: Call) -> Operation {
-    let search = Search::BesideTheCheck;
-    Operation { name, call, search }
-}
-
-/// A call that looks up lines for every subject, in a table of many.
-fn searching(name: &'static str, call: Call) -> Operation {
-    let search = Search::Most;
-    Operation { name, call, search }
+fn search(name: &'static str, way: Way, key: [u32; 3], place: usize) -> Operation {
+    let place = place as u32;
+    let work = Work::Search(LineSearch { way, key, place });
+    Operation { name, work }
 }
 
 fn set_of(subject: u32, role: u32, item: u32) -> Call {
@@ -213,18 +218,14 @@ fn overwriting(tables: &Tables) -> Call {
     }
 }
 
-/// Sets a line for a subject that has none of its own yet, on the list of the line in the middle of
-/// the table.
+/// Sets a line that is not there yet.
 fn inserting(tables: &Tables) -> Call {
-    let list = list_in_the_middle(tables);
-    let subject = (1..)
-        .find(|&subject| !has_own_line(tables, list, subject))
-        .expect("no list has an own line for every subject");
+    let [list, kind, subject] = absent_key(tables);
     Call::SetLine {
         caller: CUSTODIAN,
         role: NO_ROLE,
         list,
-        kind: ITSELF,
+        kind,
         subject,
         privileges: 5,
     }
@@ -271,6 +272,15 @@ fn role_that_counts(tables: &Tables, item: u32) -> [u32; 2] {
         .find(|[_, _, grantor, domain, _]| *grantor != CUSTODIAN && tables.in_tree(owner, *domain))
         .map(|[receiver, role, ..]| [*receiver, *role])
         .expect("some domain has the item's owner")
+}
+
+/// A subject that has no line of its own, on the list of the line in the middle of the table.
+fn absent_key(tables: &Tables) -> [u32; 3] {
+    let list = list_in_the_middle(tables);
+    let subject = (1..)
+        .find(|&subject| !has_own_line(tables, list, subject))
+        .expect("no list has an own line for every subject");
+    [list, ITSELF, subject]
 }
 
 fn has_own_line(tables: &Tables, list: u32, subject: u32) -> bool {

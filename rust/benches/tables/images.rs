@@ -87,11 +87,14 @@ pub fn lines() -> Tables {
         groups_below: 300,
         editor: None,
     };
-    let lines = (1..=lists).flat_map(|list| shape.lines(random, list));
+    let lines: Vec<_> = (1..=lists)
+        .flat_map(|list| shape.lines(random, list))
+        .collect();
+    assert_eq!(lines.len(), 3_000, "lines of this image");
     Tables {
         subjects,
         grants,
-        lines: with_spare(lines.collect()),
+        lines: with_spare(lines),
         items: with_spare(random_items(random, 100, lists, 300)),
     }
 }

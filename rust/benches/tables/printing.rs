@@ -1,6 +1,6 @@
 //! The table in Markdown, and the text before and after it.
 
-use crate::cases::{Case, Search};
+use crate::cases::Case;
 use crate::reports::{FEWEST_RUNS, MOST_RUNS};
 use crate::sides::Side;
 use crate::tables::Tables;
@@ -11,7 +11,6 @@ pub struct Row {
     pub image: &'static str,
     pub operation: &'static str,
     pub times: Times,
-    pub search: Search,
 }
 
 pub fn print_what_is_measured(cases: &[Case]) {
@@ -20,11 +19,8 @@ pub fn print_what_is_measured(cases: &[Case]) {
     );
     println!("Ratios: the library's time to that of the twin, and to that of the yardstick.");
     println!("Calls: best of {MOST_BATCHES} batches, of at least {FEWEST_BATCHES} where slow.");
+    println!("Line search and pass: as calls, but without the check of the image.");
     println!("Reports: best of {MOST_RUNS} whole processes, of at least {FEWEST_RUNS} where slow.");
-    println!(
-        "Search: the library's time goes into its row-by-row search for one line; check, search:"
-    );
-    println!("what the call takes beyond the check of the image does.");
     println!();
     print_sizes(["image", "bytes", "subjects", "grants", "lines", "items"]);
     println!("|:--|--:|--:|--:|--:|--:|");
@@ -59,9 +55,8 @@ pub fn print_heading() {
         "ratio",
         "yardstick",
         "ratio",
-        "decided by",
     ]);
-    println!("|:--|:--|--:|--:|--:|--:|--:|:--|");
+    println!("|:--|:--|--:|--:|--:|--:|--:|");
 }
 
 pub fn print_row(row: &Row) {
@@ -75,46 +70,42 @@ pub fn print_row(row: &Row) {
         &ratio(Side::Twin),
         &time(Side::Yardstick),
         &ratio(Side::Yardstick),
-        match row.search {
-            Search::Little => "",
-            Search::BesideTheCheck => "check, search",
-            Search::Most => "search",
-        },
     ]);
 }
 
-fn print_times(columns: [&str; 8]) {
-    let [image, operation, library, twin, to_twin, yardstick, to_yardstick, decided] = columns;
+fn print_times(columns: [&str; 7]) {
+    let [image, operation, library, twin, to_twin, yardstick, to_yardstick] = columns;
     println!(
         "| {image:14} | {operation:31} | {library:>7} | {twin:>7} | {to_twin:>6} \
-         | {yardstick:>9} | {to_yardstick:>6} | {decided:13} |"
+         | {yardstick:>9} | {to_yardstick:>6} |"
     );
 }
 
-/// The largest ratios among the rows of each kind of search.
+/// The largest ratio to each of the other two sides.
 pub fn print_summary(rows: &[Row]) {
     println!();
-    for side in [Side::Twin, Side::Yardstick] {
-        print_largest(side, "without search", Search::Little, rows);
-        print_largest(side, "with check and search", Search::BesideTheCheck, rows);
-        print_largest(side, "with search", Search::Most, rows);
-    }
+    print_largest(Side::Twin, rows);
+    print_largest(Side::Yardstick, rows);
 }
 
-fn print_largest(side: Side, which: &str, search: Search, rows: &[Row]) {
+fn print_largest(side: Side, rows: &[Row]) {
     let ratio = |row: &Row| row.times.ratio_to(side);
     let row = rows
         .iter()
-        .filter(|row| row.search == search)
         .max_by(|one, other| ratio(one).total_cmp(&ratio(other)))
-        .expect("there are rows of each kind");
+        .expect("there are rows");
     println!(
-        "Largest ratio to the {} {which}: {} ({}: {}).",
+        "Largest ratio to the {}: {} ({}: {}).",
         side.name(),
         in_three_digits(ratio(row)),
         row.image,
         row.operation
     );
+}
+
+/// The time for the first row, with the pass over all rows of the same image as 1.
+pub fn print_first_row(image: &str, share: f64) {
+    println!("The first row takes {share:.3} of the time of a pass over all rows ({image}).");
 }
 
 /// A time in three digits and a unit that suits them.

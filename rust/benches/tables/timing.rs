@@ -1,18 +1,18 @@
-//! The time of a call, on each side.
+//! The time of a call or of a search, on each side.
 
-use crate::call::Call;
+use crate::cases::Work;
 use crate::sides::{Side, SIDES};
 use crate::tables::HEADER_BYTES;
 use std::hint::black_box;
 use std::time::{Duration, Instant};
 
-/// How many batches each side makes if calls are quick, and if they are slow.
+/// How many batches each side makes if the work is quick, and if it is slow.
 pub const MOST_BATCHES: usize = 30;
 pub const FEWEST_BATCHES: usize = 3;
 
 const WARM_UP_SECONDS: f64 = 0.5;
 
-/// A batch takes about this long, which the clock can measure well, or it is a single call.
+/// A batch takes about this long, which the clock can measure well, or the work is done only once.
 const BATCH_SECONDS: f64 = 0.001;
 
 /// All batches of a row together take about this long at most, unless there are only the fewest.
@@ -51,9 +51,10 @@ pub fn warm_up(image: &[u8]) {
     }
 }
 
-/// The time of one call. The sides take turns, so that other work of the machine slows all of them.
-pub fn time_call(call: &Call, image: &[u8]) -> Times {
-    let mut sides = SIDES.map(|side| Batches::new(side, call, image));
+/// The time of the work, done once. The sides take turns, so that whatever else the machine does
+/// slows all of them.
+pub fn time_work(work: &Work, image: &[u8]) -> Times {
+    let mut sides = SIDES.map(|side| Batches::new(side, work, image));
     let turn_seconds: f64 = sides.iter().map(Batches::batch_seconds).sum();
     let batches = ((ROW_SECONDS / turn_seconds) as usize).clamp(FEWEST_BATCHES, MOST_BATCHES);
     let mut best = Times::NONE_YET;
@@ -65,40 +66,40 @@ pub fn time_call(call: &Call, image: &[u8]) -> Times {
     best
 }
 
-/// A call that one side makes in batches.
+/// What one side does again and again, in batches.
 struct Batches<'a> {
     side: Side,
-    call: &'a Call,
+    work: &'a Work,
     image: &'a [u8],
-    /// What the calls of a batch work on: one copy of the image, or one for each call.
+    /// What a batch works on: one copy of the image, or one for each round.
     copies: Vec<u8>,
     one_copy_each: bool,
-    /// Calls in a batch.
-    calls: usize,
-    /// The time of one call, from a first measurement.
+    /// How often the work is done in a batch.
+    rounds: usize,
+    /// The time of one round, from a first measurement.
     estimate: f64,
 }
 
 impl<'a> Batches<'a> {
-    fn new(side: Side, call: &'a Call, image: &'a [u8]) -> Batches<'a> {
+    fn new(side: Side, work: &'a Work, image: &'a [u8]) -> Batches<'a> {
         let mut batches = Batches {
             side,
-            call,
+            work,
             image,
             copies: image.to_vec(),
-            one_copy_each: changes_a_count(side, call, image),
-            calls: 1,
+            one_copy_each: changes_a_count(side, work, image),
+            rounds: 1,
             estimate: f64::INFINITY,
         };
         for _ in 0..3 {
             batches.estimate = batches.estimate.min(batches.batch());
         }
-        let calls = (BATCH_SECONDS / batches.estimate) as usize;
-        batches.calls = calls.clamp(1, batches.most_calls());
+        let rounds = (BATCH_SECONDS / batches.estimate) as usize;
+        batches.rounds = rounds.clamp(1, batches.most_rounds());
         batches
     }
 
-    fn most_calls(&self) -> usize {
+    fn most_rounds(&self) -> usize {
         if self.one_copy_each {
             MOST_COPIED / self.image.len()
         } else {
@@ -107,23 +108,23 @@ impl<'a> Batches<'a> {
     }
 
     fn batch_seconds(&self) -> f64 {
-        self.estimate * self.calls as f64
+        self.estimate * self.rounds as f64
     }
 
-    /// The time of one call, from a batch of them.
+    /// The time of one round, from a batch of them.
     fn batch(&mut self) -> f64 {
         let taken = if self.one_copy_each {
             self.batch_on_fresh_copies()
         } else {
             self.batch_on_the_same_copy()
         };
-        taken.as_secs_f64() / self.calls as f64
+        taken.as_secs_f64() / self.rounds as f64
     }
 
     fn batch_on_the_same_copy(&mut self) -> Duration {
         let start = Instant::now();
-        for _ in 0..self.calls {
-            make(self.side, self.call, &mut self.copies);
+        for _ in 0..self.rounds {
+            do_once(self.side, self.work, &mut self.copies);
         }
         start.elapsed()
     }
@@ -131,31 +132,41 @@ impl<'a> Batches<'a> {
     /// The copying is not timed. It also brings the copies into the cache.
     fn batch_on_fresh_copies(&mut self) -> Duration {
         self.copies.clear();
-        for _ in 0..self.calls {
+        for _ in 0..self.rounds {
             self.copies.extend_from_slice(self.image);
         }
         let start = Instant::now();
         for copy in self.copies.chunks_exact_mut(self.image.len()) {
-            make(self.side, self.call, copy);
+            do_once(self.side, self.work, copy);
         }
         start.elapsed()
     }
 }
 
-/// Makes a call that the compiler can neither foresee nor leave out. The outcome stays where it is: to
-/// move it would copy the entries for counts too, which most calls do not need.
+/// Does the work so that the compiler can neither foresee it nor leave it out. The outcome of a
+/// call stays where it is: to move it would copy the entries for counts too, which most calls do
+/// not need.
 #[inline]
-fn make(side: Side, call: &Call, image: &mut [u8]) {
-    let outcome = side.make(black_box(call), black_box(image));
-    black_box(&outcome);
+fn do_once(side: Side, work: &Work, image: &mut [u8]) {
+    match black_box(work) {
+        Work::Call(call) => {
+            let outcome = side.make(call, black_box(image));
+            black_box(&outcome);
+        }
+        Work::Search(search) => {
+            black_box(search.answer(side, black_box(image)));
+        }
+    }
 }
 
-/// Does the call add or remove a row? A second call on the same copy would then do something else.
-fn changes_a_count(side: Side, call: &Call, image: &[u8]) -> bool {
-    if call.only_asks() {
-        return false;
+/// Is a row added or removed? To do the same again on the same copy would then be something else.
+fn changes_a_count(side: Side, work: &Work, image: &[u8]) -> bool {
+    match work {
+        Work::Call(call) if !call.only_asks() => {
+            let mut copy = image.to_vec();
+            side.make(call, &mut copy);
+            copy[..HEADER_BYTES] != image[..HEADER_BYTES]
+        }
+        _ => false,
     }
-    let mut copy = image.to_vec();
-    side.make(call, &mut copy);
-    copy[..HEADER_BYTES] != image[..HEADER_BYTES]
 }

@@ -115,7 +115,7 @@ pub fn set_line(
             subject,
             privileges,
         };
-        match view.find_line(list, kind, subject) {
+        match view.lines.find_line(list, kind, subject) {
             Ok(row) => LINES.overwrite(image, row, line.bytes()),
             Err(row) => {
                 ask(19, view.lines.has_free_row())?;
@@ -138,6 +138,7 @@ pub fn remove_line(
         let view = Image::open(image)?;
         ask_for_line(&view, caller, role, list, kind, subject)?;
         let row = view
+            .lines
             .find_line(list, kind, subject)
             .map_err(|_| Refused(17))?;
         LINES.remove(image, row);

@@ -37,6 +37,22 @@ impl<'a, const N: usize> Rows<'a, N> {
     }
 }
 
+impl<'a> Rows<'a, LINE> {
+    /// The table of lines alone, where the header puts it. The other tables are not
+    /// looked at. None if it is not within the image.
+    pub fn lines(image: &'a [u8]) -> Option<Self> {
+        let header: &[u8; HEADER] = image.first_chunk()?;
+        let [_, _, _, _, used, start, _, end, _] = words(header);
+        Rows::between(image, used, start, end)
+    }
+
+    /// The index of this line, or else its insertion index.
+    pub fn find_line(&self, list: u32, kind: u32, subject: u32) -> Result<usize, usize> {
+        self.used
+            .binary_search_by_key(&(list, kind, subject), |row| Line::read(row).key())
+    }
+}
+
 /// The four tables of an image. `Image::open` makes it only of an accepted image.
 /// In that, every subject and item that a row names is in use.
 #[derive(Clone, Copy)]
@@ -103,19 +119,12 @@ impl<'a> Image<'a> {
         start..start + count
     }
 
-    /// The index of this line, or else its insertion index.
-    pub fn find_line(&self, list: u32, kind: u32, subject: u32) -> Result<usize, usize> {
-        self.lines
-            .used
-            .binary_search_by_key(&(list, kind, subject), |row| Line::read(row).key())
-    }
-
     /// The privileges of this line, if there is one. List 0 has no lines.
     pub fn line(&self, list: u32, kind: u32, subject: u32) -> Option<u32> {
         if list == NO_LIST {
             return None;
         }
-        let row = self.find_line(list, kind, subject).ok()?;
+        let row = self.lines.find_line(list, kind, subject).ok()?;
         Some(Line::read(&self.lines.used[row]).privileges)
     }
 

@@ -17,6 +17,7 @@ mod permission;
 mod questions;
 mod report;
 mod rows;
+mod searching;
 mod table;
 
 #[allow(unused_imports)]
@@ -30,6 +31,8 @@ pub use changing::{
 };
 #[allow(unused_imports)]
 pub use report::report;
+#[allow(unused_imports)]
+pub use searching::{count_lower_lines, line_index};
 
 /// What a call answers: number 0 and its result, or the refusal and result 0.
 #[derive(Clone, Copy, Debug, PartialEq, Eq)]

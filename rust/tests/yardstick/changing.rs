@@ -117,7 +117,7 @@ pub fn set_line(
             subject,
             privileges,
         };
-        match tables.find_line(line.key()) {
+        match tables.lines.find_line(line.key()) {
             Ok(index) => LINES.overwrite(image, index, line.row()),
             Err(index) => {
                 Question::FreeRow.ask(tables.lines.has_free_row())?;
@@ -139,7 +139,7 @@ pub fn remove_line(
     Answer::to(|| {
         let tables = open(image)?;
         ask_about_line(&tables, caller, role, list, kind, subject)?;
-        let found = tables.find_line(line_key(list, kind, subject));
+        let found = tables.lines.find_line(line_key(list, kind, subject));
         let index = found.map_err(|_| Question::RowThere)?;
         LINES.remove(image, index);
         Ok(0)

@@ -17,6 +17,7 @@ mod opening;
 mod permission;
 mod report;
 mod rows;
+mod searching;
 mod sets;
 mod tables;
 mod text;
@@ -34,6 +35,8 @@ pub use changing::{
 };
 #[allow(unused_imports)]
 pub use report::report;
+#[allow(unused_imports)]
+pub use searching::{count_lower_lines, line_index};
 
 /// What a call answers: number 0 and its result, or the number of a question and result 0.
 #[derive(Clone, Copy, Debug, PartialEq, Eq)]

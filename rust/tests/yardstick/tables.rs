@@ -3,8 +3,17 @@
 use super::list::List;
 use super::rows::{grant_key, Grant, Item, Line, Row, Subject, NO_ROLE};
 use super::tree::Tree;
+use std::array;
 
 pub const HEADER_BYTES: usize = 36;
+
+/// The fields of the header. None where the image is shorter than that.
+#[inline]
+fn header(image: &[u8]) -> Option<[u32; 9]> {
+    let bytes: &[u8; HEADER_BYTES] = image.first_chunk()?;
+    let (fields, _) = bytes.as_chunks();
+    Some(array::from_fn(|n| u32::from_le_bytes(fields[n])))
+}
 
 /// The rows of one table.
 #[derive(Clone, Copy)]
@@ -32,6 +41,21 @@ impl<'a, const FIELDS: usize> Rows<'a, FIELDS> {
     }
 }
 
+impl<'a> Rows<'a, 4> {
+    /// The lines alone, where the header puts them. None where they are not within the image.
+    #[inline]
+    pub fn lines(image: &'a [u8]) -> Option<Self> {
+        let header = header(image)?;
+        Rows::between(image, header[4], header[5], header[7])
+    }
+
+    /// Where the line with this key is, or else where it would be.
+    pub fn find_line(&self, key: u64) -> Result<usize, usize> {
+        self.used
+            .binary_search_by_key(&key, |row| Line::of(row).key())
+    }
+}
+
 /// The tables of an image. Below `opening` they are those of an accepted image.
 #[derive(Clone, Copy)]
 pub struct Tables<'a> {
@@ -45,18 +69,16 @@ impl<'a> Tables<'a> {
     /// The tables as the header lays them out. None where question 2 is answered no.
     #[inline]
     pub fn laid_out(image: &'a [u8]) -> Option<Tables<'a>> {
-        let header: &[u8; HEADER_BYTES] = image.first_chunk()?;
-        let (fields, _) = header.as_chunks();
-        let field = |n: usize| u32::from_le_bytes(fields[n]);
-        let total = field(8);
-        if total as usize != image.len() || field(1) as usize != HEADER_BYTES || field(0) == 0 {
+        let header = header(image)?;
+        let total = header[8];
+        if total as usize != image.len() || header[1] as usize != HEADER_BYTES || header[0] == 0 {
             return None;
         }
         Some(Tables {
-            subjects: Rows::between(image, field(0), field(1), field(3))?,
-            grants: Rows::between(image, field(2), field(3), field(5))?,
-            lines: Rows::between(image, field(4), field(5), field(7))?,
-            items: Rows::between(image, field(6), field(7), total)?,
+            subjects: Rows::between(image, header[0], header[1], header[3])?,
+            grants: Rows::between(image, header[2], header[3], header[5])?,
+            lines: Rows::between(image, header[4], header[5], header[7])?,
+            items: Rows::between(image, header[6], header[7], total)?,
         })
     }
 
@@ -102,12 +124,6 @@ impl<'a> Tables<'a> {
         let lines = self.lines.used;
         let end = lines.partition_point(|row| Line::of(row).list <= item.list);
         List::at_end(&lines[..end], item.list)
-    }
-
-    /// Where the line with this key is, or else where it would be.
-    pub fn find_line(&self, key: u64) -> Result<usize, usize> {
-        let lines = self.lines.used;
-        lines.binary_search_by_key(&key, |row| Line::of(row).key())
     }
 
     /// Where the grant is, or else where it would be.
