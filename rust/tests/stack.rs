@@ -1,5 +1,6 @@
 //! The stack that the library promises to be enough: every call that searches groups, on the longest
-//! chains of groups that fit into an image, on a thread that has exactly this stack.
+//! chains of groups and the longest searches that fit into an image, on a thread that has exactly this
+//! stack.
 
 mod support;
 mod twin;
@@ -17,6 +18,7 @@ const READ: u32 = Privileges::READ.0;
 const EDIT_LIST: u32 = Privileges::EDIT_LIST.0;
 const LONGEST: usize = 65_536;
 const SUBJECT_BYTES: usize = 12;
+const LINE_BYTES: usize = 16;
 
 /// A chain of subjects, each below the one before, as many as fit beside these rows. The one item is
 /// a list, which is its own list and the custodian's.
@@ -39,6 +41,20 @@ fn chain(grants: Vec<[u32; 5]>, lines: Vec<[u32; 4]>) -> Tables {
     let many = (LONGEST - tables.image().len()) / SUBJECT_BYTES;
     let below = (1..many as u32).map(|number| [number - 1, ALL, number - 1]);
     tables.subjects.rows = [[0, ALL, 0]].into_iter().chain(below).collect();
+    tables
+}
+
+/// A chain of the subjects with even numbers, and a group line for each odd number, as many as fit.
+/// Nobody is below an odd number. So on the way up, the search meets a group line between every two
+/// groups that it passes, and none that decides: it has to be made anew for each of them.
+fn lines_between_the_groups() -> Tables {
+    let mut tables = chain(vec![], vec![]);
+    tables.subjects.rows.clear();
+    let pairs = (LONGEST - tables.image().len()) / (2 * SUBJECT_BYTES + LINE_BYTES);
+    let pairs = 0..pairs as u32;
+    let two = |pair: u32| [[(2 * pair).saturating_sub(2), ALL, 0], [0, ALL, 0]];
+    tables.subjects.rows = pairs.clone().flat_map(two).collect();
+    tables.lines.rows = pairs.map(|pair| [1, GROUP, 2 * pair + 1, ALL]).collect();
     tables
 }
 
@@ -102,6 +118,19 @@ fn a_group_line_at_the_top() {
     let answers = on_promised_stack(move || answers(image, deepest));
     let (set, everybody) = (EDIT_LIST | READ, deepest.0 + 1);
     assert_eq!(answers, [Ok(set), Ok(everybody), Ok(1), Ok(0), Ok(0)]);
+}
+
+#[test]
+fn a_group_line_between_every_two_groups() {
+    let tables = lines_between_the_groups();
+    assert_eq!(tables.lines.used(), 1_637, "the most that an image holds");
+    let deepest = Subject(tables.subjects.used() as u32 - 2);
+    let image = tables.image();
+    let explanation = explanation(image.clone(), deepest);
+    assert_eq!(explanation.rule, Rule::NothingFound);
+    let answers = on_promised_stack(move || answers(image, deepest));
+    let (no_editor, refused) = (Err(Refusal::NoEditor), Err(Refusal::NotPermitted));
+    assert_eq!(answers, [Ok(0), Ok(1), no_editor, refused, refused]);
 }
 
 /// Under a role there are two searches: one for the asker, one for the role's grantor.

@@ -1,21 +1,22 @@
 -- The editor search: subjects are tried one after the other, from the first after the custodian; and whether a subject may edit.
-use mathlib.Core.Bool.{Bool, true, false, not}
+use mathlib.Core.Bool.{Bool, true, false, not, _&&_}
 use mathlib.Core.List.{List}
 use mathlib.Core.Logic.{inl, inr}
-use mathlib.Core.Option.{none}
-use mathlib.Core.Path.{_≡_, refl, sym, _∙_}
+use mathlib.Core.Path.{_≡_, refl, sym, ap, _∙_}
 use Prim.Native.Nat.{ℕ, _+_, _<_, _≤_}
 use native.Mathlib.Omega.{arith}
 use borrow.Author.Tests.{lt-ltb, le-ltb, ne-eqb, eq-eqb, not-true, not-false}
 use lib.ListN.{length}
+use Rattle.model.specs.declared.ItemRow.{ItemRow}
 use Rattle.model.specs.declared.Layout.{Layout}
 use Rattle.model.specs.WhoAndWhat.{editList, has}
-use Rattle.model.specs.Image.{Tables, widthOf, subjectFormat, tablesBy, subjectUsed}
-use Rattle.model.specs.Permission.{operationUnder, objectUnder, permissionUnder, permissionSet}
+use Rattle.model.specs.Image.{Tables, widthOf, subjectFormat, tablesBy, subjectUsed, privilegesIn, itemIn}
+use Rattle.model.specs.Permission.{partOn, permissionSet}
 use Rattle.model.specs.Calls.{isEditor}
 use Rattle.laws.specs.Tests.{two, le-or-lt, lt-eq-gt}
 use Rattle.laws.specs.Sets.{has-and}
 use Rattle.laws.specs.Rows.{rows-count}
+use Rattle.permission.specs.Sets.{set-shared}
 use Rattle.asking.specs.Found.{Editor}
 
 module _ (t : Tables) (a : ℕ) where
@@ -67,18 +68,20 @@ pub subjects-used : (lay : Layout) (img : List ℕ) → lay .subjects .used ≡ 
 unfolding tablesBy
 subjects-used lay img = sym (rows-count (subjectFormat (widthOf lay)) (lay .subjects) img)
 
--- Whether s may edit list a: without the position in the operation set it may not, and otherwise the object set decides.
-module _ (t : Tables) (s a needed : ℕ) (position : needed ≡ editList) (operations : ℕ) (its-operations : operations ≡ operationUnder t s none)
-    (b : Bool) (said : b ≡ has needed operations) where
-  pub edit-no : not b ≡ true → false ≡ has editList (permissionSet t s 0 a)
-  unfolding permissionUnder
-  edit-no h =
-      let lacks : has editList (operationUnder t s none) ≡ false = rw (← its-operations, ← position, ← said) (not-true b h) in
-      rw (has-and editList (operationUnder t s none) (objectUnder t s none a), lacks)
+-- Whether s may edit list a, whose row is x: without the position in its own row it may not, and otherwise the lines' part
+-- decides.
+module _ (t : Tables) (s a : ℕ) (x : ItemRow) (read : x ≡ itemIn (t .items) a) (needed : ℕ) (position : needed ≡ editList) (own : ℕ)
+    (its-own : own ≡ privilegesIn (t .subjects) s) (b : Bool) (said : b ≡ has needed own) where
+  asked-both : has editList (permissionSet t s 0 a) ≡ (b && has editList (partOn t s x))
+  asked-both =
+      let held : has editList (privilegesIn (t .subjects) s) ≡ b = rw (← its-own, ← position) (sym said) in
+      ap (has editList) (sym (set-shared t s a x read))
+      ∙ has-and editList (privilegesIn (t .subjects) s) (partOn t s x)
+      ∙ ap (λ (c : Bool). c && has editList (partOn t s x)) held
 
-  pub edit-by-lines : not b ≡ false → (objects : ℕ) → objects ≡ objectUnder t s none a → (r : Bool) → r ≡ has needed objects
+  pub edit-no : not b ≡ true → false ≡ has editList (permissionSet t s 0 a)
+  edit-no h = rw (asked-both, not-true b h)
+
+  pub edit-by-lines : not b ≡ false → (part : ℕ) → part ≡ partOn t s x → (r : Bool) → r ≡ has needed part
       → r ≡ has editList (permissionSet t s 0 a)
-  unfolding permissionUnder
-  edit-by-lines h objects its-objects r e =
-      let holds : has editList (operationUnder t s none) ≡ true = rw (← its-operations, ← position, ← said) (not-false b h) in
-      rw (has-and editList (operationUnder t s none) (objectUnder t s none a), holds) (e ∙ rw (position, its-objects))
+  edit-by-lines h part its-part r e = rw (asked-both, not-false b h) (e ∙ rw (position, its-part))

@@ -1,6 +1,7 @@
 // The call that finds a subject that may edit a list.
 ghost use mathlib.Core.Path.{_≡_};
 ghost use Rattle.model.specs.WhoAndWhat.{editList, has};
+ghost use Rattle.model.specs.Image.{itemIn};
 ghost use Rattle.model.specs.Permission.{permissionSet};
 ghost use Rattle.model.specs.Questions.{EditorAnswer};
 ghost use Rattle.asking.specs.Found.{Editor};
@@ -8,17 +9,18 @@ ghost use Rattle.model.specs.Lent.{tablesAt};
 use acceptance::open;
 use model::Answer;
 use model::Item;
+use model::ItemRow;
 use model::Layout;
 use model::Opened;
 use model::SET_LINE;
-use model::SoughtGrant;
 use model::Subject;
 use model::has;
 use model::needed_position;
 use model::refusal;
-use permission::decision::objects_under;
-use permission::decision::operations_under;
+use permission::lines::lines_part;
+use rows::read::item_at;
 use tables::items::is_list;
+use tables::subjects::privileges_of;
 
 // Finds a subject, other than the custodian, that may edit the list without claiming a role. Its number is the result.
 // Which of several is undecided. Where there is none, the call is refused with 20.
@@ -43,15 +45,16 @@ pub fn find_editor(image: &[u8], list: Item) -> Answer
 }
 
 // The number of a subject, other than the custodian, that may edit the list; or 0, the custodian's number, where there is
-// none. The loop goes up from 1 and stops at the first, but the contract promises no order: which of several is undecided.
+// none. The list's row is read once. The loop goes up from 1 and stops at the first, but the contract promises no order: which of several is undecided.
 fn some_editor(image: &[u8], layout: Layout, list: Item) -> u32
     ensures { λ r. ⌜ Editor (tablesAt layout (image .entry)) (list .0) r ⌝ }
 {
+    let row = item_at(image, layout, list);
     let table = layout.subjects;
     let used = table.used;
     let mut n = 1;
     while n < used {
-        if may_edit(image, layout, Subject(n), list) {
+        if may_edit(image, layout, Subject(n), list, row) {
             return n;
         }
         n += 1;
@@ -59,15 +62,15 @@ fn some_editor(image: &[u8], layout: Layout, list: Item) -> u32
     0
 }
 
-// Whether a subject may edit a list without claiming a role. The lines are looked up only if the subject may edit lists at all.
-fn may_edit(image: &[u8], layout: Layout, subject: Subject, list: Item) -> bool
+// Whether a subject may edit a list without claiming a role. The list's row was read before, and its number is handed over so
+// that the contract can name it. Lines are looked up only if the subject may edit lists at all.
+fn may_edit(image: &[u8], layout: Layout, subject: Subject, list: Item, row: ItemRow) -> bool
+    requires { ⌜ row ≡ itemIn (tablesAt layout image .items) (list .0) ⌝ }
     ensures { λ r. ⌜ r ≡ has editList (permissionSet (tablesAt layout (image .entry)) (subject .0) 0 (list .0)) ⌝ }
 {
     let needed = needed_position(SET_LINE);
-    let operations = operations_under(image, layout, subject, SoughtGrant::NoGrant);
-    if !has(needed, operations) {
+    if !has(needed, privileges_of(image, layout, subject)) {
         return false;
     }
-    let objects = objects_under(image, layout, subject, SoughtGrant::NoGrant, list);
-    has(needed, objects)
+    has(needed, lines_part(image, layout, subject, row))
 }

@@ -5,7 +5,8 @@ ghost use lib.Dec.{eqb};
 ghost use lib.ListN.{length, replicate};
 ghost use Rattle.model.specs.Lists.{All};
 ghost use Rattle.model.specs.WhoAndWhat.{positionsOf};
-ghost use Rattle.model.specs.Image.{widthOf};
+ghost use Rattle.model.specs.Image.{widthOf, itemIn};
+ghost use Rattle.model.specs.Permission.{permissionSet};
 ghost use Rattle.model.specs.Calls.{holderCounts};
 ghost use Rattle.model.specs.Lent.{tablesAt};
 ghost use Rattle.model.specs.Questions.{countHolders};
@@ -13,13 +14,14 @@ ghost use Rattle.asking.specs.Found.{counted};
 use acceptance::open;
 use model::Answer;
 use model::Item;
+use model::ItemRow;
 use model::Layout;
 use model::Opened;
 use model::Privileges;
-use model::SoughtGrant;
 use model::Subject;
 use model::refusal;
-use permission::decision::permissions_under;
+use permission::decision::permissions_on;
+use rows::read::item_at;
 use sizes::positions;
 use tables::items::item_used;
 
@@ -53,20 +55,30 @@ fn has_every_position(entries: usize, layout: Layout) -> bool
     entries == positions(layout)
 }
 
-// Counts one subject's set after the other, from the custodian's on.
+// Counts one subject's set after the other, from the custodian's on. The item's row is read once.
 fn count_subjects(image: &[u8], layout: Layout, item: Item, counts: &mut [u32])
     ensures { λ _. let t = tablesAt layout (image .entry) in
         ⌜ now (counts .exit) ≡ holderCounts t (item .0) (length (now (counts .entry))) ⌝ }
 {
     clear(counts);
+    let row = item_at(image, layout, item);
     let table = layout.subjects;
     let used = table.used;
     let mut subject = 0;
     while subject < used {
-        let set = permissions_under(image, layout, Subject(subject), SoughtGrant::NoGrant, item);
+        let set = set_on(image, layout, Subject(subject), item, row);
         count_set(set, counts);
         subject += 1;
     }
+}
+
+// The permission set of a subject on an item whose row was read before. The item's number is handed over so that the contract
+// can name it.
+fn set_on(image: &[u8], layout: Layout, subject: Subject, item: Item, row: ItemRow) -> Privileges
+    requires { ⌜ row ≡ itemIn (tablesAt layout image .items) (item .0) ⌝ }
+    ensures { λ r. ⌜ r ≡ permissionSet (tablesAt layout (image .entry)) (subject .0) 0 (item .0) ⌝ }
+{
+    permissions_on(image, layout, subject, row)
 }
 
 fn clear(counts: &mut [u32])

@@ -1,6 +1,6 @@
 -- The sets of a subject, put together as the code does it, and their explanation.
 use mathlib.Core.Option.{Option, some}
-use mathlib.Core.Path.{_≡_, sym, ap, _∙_}
+use mathlib.Core.Path.{_≡_, refl, sym, ap, _∙_}
 use Prim.Native.Nat.{ℕ}
 use lib.Bits.{or-zero-r}
 use Rattle.model.specs.declared.Explanation.{Explanation}
@@ -68,3 +68,12 @@ module _ (t : Tables) (s role : ℕ) (g : Option GrantRow) (r : ℕ) (found : g 
 module _ (t : Tables) (s role : ℕ) (g : Option GrantRow) (i : ℕ) (e : Explanation) where
   pub explanation-claimed : g ≡ grantOf t s role → e ≡ explanationUnder t s g i → e ≡ explanation t s role i
   explanation-claimed found is = is ∙ ap (λ (x : Option GrantRow). explanationUnder t s x i) found
+
+-- Without a role, the permission set is what the subject's own row and the lines' part share. x is the item's row.
+module _ (t : Tables) (s i : ℕ) (x : ItemRow) (read : x ≡ itemIn (t .items) i) where
+  pub set-on-row : (p : ℕ) → p ≡ privilegesIn (t .subjects) s ∩ partOn t s x → p ≡ permissionSet t s 0 i
+  unfolding permissionUnder operationUnder objectUnder
+  set-on-row p e = e ∙ rw (or-zero-r (privilegesIn (t .subjects) s), ← read, or-zero-r (partOn t s x))
+
+  pub set-shared : privilegesIn (t .subjects) s ∩ partOn t s x ≡ permissionSet t s 0 i
+  set-shared = set-on-row (privilegesIn (t .subjects) s ∩ partOn t s x) refl

@@ -1,12 +1,16 @@
 // How a permission is found: the sets of a subject, under a grant that it holds or might hold, and under the role that it
 // claims. No function checks the image: a caller that has checked it once may ask for any number of sets.
 ghost use mathlib.Core.Path.{_≡_};
-ghost use Rattle.model.specs.Permission.{foundGrant, grantOf, operationUnder, objectUnder, permissionUnder, operationSet, permissionSet};
+ghost use Rattle.model.specs.WhoAndWhat.{_∩_};
+ghost use Rattle.model.specs.Image.{privilegesIn};
+ghost use Rattle.model.specs.Permission.{foundGrant, grantOf, partOn, operationUnder, objectUnder, permissionUnder};
+ghost use Rattle.model.specs.Permission.{operationSet, permissionSet};
 ghost use Rattle.model.specs.Lent.{tablesAt};
 use crate::lines::lines_part;
 use crate::parts::granted_part;
 use crate::parts::lent_operations;
 use model::Item;
+use model::ItemRow;
 use model::Layout;
 use model::Privileges;
 use model::Role;
@@ -77,6 +81,17 @@ pub fn permissions_under(
     let operations = operations_under(image, layout, subject, grant);
     let objects = objects_under(image, layout, subject, grant, item);
     intersection(operations, objects)
+}
+
+// The permission set of a subject that claims no role, on an item whose row is handed in. Whoever asks for the sets of many
+// subjects on one item reads its row once.
+pub fn permissions_on(image: &[u8], layout: Layout, subject: Subject, item: ItemRow) -> Privileges
+    ensures { λ r. let t = tablesAt layout (image .entry) in
+        ⌜ r ≡ privilegesIn (t .subjects) (subject .0) ∩ partOn t (subject .0) item ⌝ }
+{
+    let own = privileges_of(image, layout, subject);
+    let part = lines_part(image, layout, subject, item);
+    intersection(own, part)
 }
 
 // The operation set.

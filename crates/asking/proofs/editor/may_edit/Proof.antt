@@ -1,4 +1,4 @@
--- `asking::editor::may_edit` meets its contract: first the operation set, then the lines.
+-- `asking::editor::may_edit` meets its contract: first the subject's own row, then the lines.
 use borrow.Author.Needs.{needs}
 use Rattle.asking.specs.Editors.{edit-no, edit-by-lines}
 use Rattle.asking.proofs.editor.may_edit.Statement.{statement}
@@ -7,8 +7,8 @@ use Rattle.asking.proofs.editor.may_edit.Tie as tie
 needed-position-requires : tie.Need-needed-position-requires
 needed-position-requires c κs = search needs
 
-operations-under-requires : tie.Need-operations-under-requires
-operations-under-requires c κs = search needs
+privileges-of-requires : tie.Need-privileges-of-requires
+privileges-of-requires c κs = search needs
 
 has-requires : tie.Need-has-requires
 has-requires c κs = search needs
@@ -16,8 +16,8 @@ has-requires c κs = search needs
 returns : tie.Need-returns
 returns c = search edit-no
 
-objects-under-requires : tie.Need-objects-under-requires
-objects-under-requires c κs = search needs
+lines-part-requires : tie.Need-lines-part-requires
+lines-part-requires c κs = search needs
 
 has-requires-2 : tie.Need-has-requires-2
 has-requires-2 c κs = search needs
@@ -30,9 +30,9 @@ may-edit-spec =
     tie.close
     (tie.spec
     needed-position-requires
-    operations-under-requires
+    privileges-of-requires
     has-requires
     returns
-    objects-under-requires
+    lines-part-requires
     has-requires-2
     returns-2)

@@ -8,15 +8,19 @@ use Rattle.asking.proofs.editor.some_editor.Statement.{statement}
 use Rattle.asking.proofs.editor.some_editor.Tie as tie
 
 abbrev Inv-loop : tie.InvT-loop
-Inv-loop image layout list used n₀ n = Tried (tablesBy layout image) (list .0) n
+Inv-loop image layout list row used n₀ n = Tried (tablesBy layout image) (list .0) n
 
 abbrev μ-loop : tie.MeasureT-loop
-μ-loop image layout list used n₀ n = used - n
+μ-loop image layout list row used n₀ n = used - n
+
+item-at-requires : tie.Need-item-at-requires Inv-loop μ-loop
+item-at-requires c κs = search needs
 
 loop-holds : tie.Need-loop-holds Inv-loop μ-loop
 loop-holds c = search tried-none
 
 may-edit-requires : tie.Need-may-edit-requires Inv-loop μ-loop
+unfolding tablesBy
 may-edit-requires c κs = search needs
 
 returns : tie.Need-returns Inv-loop μ-loop
@@ -40,6 +44,7 @@ some-editor-spec =
     (tie.spec
     Inv-loop
     μ-loop
+    item-at-requires
     loop-holds
     may-edit-requires
     returns

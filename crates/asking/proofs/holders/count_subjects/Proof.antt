@@ -10,19 +10,23 @@ use Rattle.asking.proofs.holders.count_subjects.Statement.{statement}
 use Rattle.asking.proofs.holders.count_subjects.Tie as tie
 
 abbrev Inv-loop : tie.InvT-loop
-Inv-loop image layout item counts₀ used subject₀ counts subject = Tally (tablesBy layout image) (item .0) (length counts₀) subject counts
+Inv-loop image layout item counts₀ row used subject₀ counts subject = Tally (tablesBy layout image) (item .0) (length counts₀) subject counts
 
 abbrev μ-loop : tie.MeasureT-loop
-μ-loop image layout item counts₀ used subject₀ counts subject = used - subject
+μ-loop image layout item counts₀ row used subject₀ counts subject = used - subject
 
 clear-requires : tie.Need-clear-requires Inv-loop μ-loop
 clear-requires c κs = search needs
 
+item-at-requires : tie.Need-item-at-requires Inv-loop μ-loop
+item-at-requires c κs = search needs
+
 loop-holds : tie.Need-loop-holds Inv-loop μ-loop
 loop-holds c = search tally-none
 
-permissions-under-requires : tie.Need-permissions-under-requires Inv-loop μ-loop
-permissions-under-requires c κs = search needs
+set-on-requires : tie.Need-set-on-requires Inv-loop μ-loop
+unfolding tablesBy
+set-on-requires c κs = search needs
 
 count-set-requires : tie.Need-count-set-requires Inv-loop μ-loop
 count-set-requires c κs = search (tally-fits, subjects-used, needs)
@@ -49,8 +53,9 @@ count-subjects-spec =
     Inv-loop
     μ-loop
     clear-requires
+    item-at-requires
     loop-holds
-    permissions-under-requires
+    set-on-requires
     count-set-requires
     add-subject
     loop-less
