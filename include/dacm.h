@@ -15,8 +15,8 @@
  * image, each with counts of its own.
  *
  * A call uses at most DACM_STACK_BYTES of stack, whatever the image holds. The search for a group's line is recursive,
- * with one level for each group above the subject. The longest chain of groups that fits into an image has some 5,450.
- * The tests run the deepest chains on a thread that has exactly this stack.
+ * with at most one level for each group line of the list. The longest search that fits into an image has some 1,640.
+ * The tests run the longest searches and the deepest chains on a thread that has exactly this stack.
  */
 #ifndef DACM_H
 #define DACM_H

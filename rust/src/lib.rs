@@ -7,8 +7,8 @@
 //! # Stack
 //!
 //! A call uses at most [`STACK_BYTES`] of stack, whatever the image holds. The search for a group's
-//! line is recursive, with one level for each group above the subject. The longest chain of groups
-//! that fits into an image has some 5,450.
+//! line is recursive, with at most one level for each group line of the list. The longest search that
+//! fits into an image has some 1,640.
 //!
 //! # An image and some calls
 //!
@@ -117,7 +117,7 @@ pub use row::{GrantRow, ItemRow, LineRow, Row, SubjectRow};
 pub use rows::{Rows, RowsIter};
 pub use tables::Tables;
 
-/// The stack that a call may need, on the deepest chain of groups that an image can hold.
+/// The stack that a call may need, on the longest search for a group's line that an image can hold.
 pub const STACK_BYTES: usize = 512 * 1024;
 
 /// The Rust blocks of the README run as documentation tests.
