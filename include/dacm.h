@@ -15,7 +15,7 @@
  * image, each with counts of its own.
  *
  * A call uses at most DACM_STACK_BYTES of stack, whatever the image holds. The search for a group's line is recursive,
- * with at most one level for each group line of the list. The longest search that fits into an image has some 1,640.
+ * with at most one level more than the list has group lines. The longest search that fits into an image has some 1,640.
  * The tests run the longest searches and the deepest chains on a thread that has exactly this stack.
  */
 #ifndef DACM_H

@@ -7,8 +7,8 @@
 //! # Stack
 //!
 //! A call uses at most [`STACK_BYTES`] of stack, whatever the image holds. The search for a group's
-//! line is recursive, with at most one level for each group line of the list. The longest search that
-//! fits into an image has some 1,640.
+//! line is recursive, with at most one level more than the list has group lines. The longest search
+//! that fits into an image has some 1,640.
 //!
 //! # An image and some calls
 //!

@@ -1,6 +1,6 @@
 -- The rows of one list stand together, because lines ascend by their list first. They start at the insertion index of the
 -- list's lowest key, and end before that of a key beyond them.
-use mathlib.Core.Bool.{Bool, true, false, _||_, or-false, and-false, and-true}
+use mathlib.Core.Bool.{Bool, false, _||_, or-false, and-false, and-true}
 use mathlib.Core.List.{List, [], _∷_}
 use mathlib.Core.Logic.{inl, inr}
 use mathlib.Core.Path.{_≡_, refl, ap, _∙_}

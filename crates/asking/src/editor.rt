@@ -45,7 +45,8 @@ pub fn find_editor(image: &[u8], list: Item) -> Answer
 }
 
 // The number of a subject, other than the custodian, that may edit the list; or 0, the custodian's number, where there is
-// none. The list's row is read once. The loop goes up from 1 and stops at the first, but the contract promises no order: which of several is undecided.
+// none. The list's row is read once. The loop goes up from 1 and stops at the first, but the contract promises no order: which
+// of several is undecided.
 fn some_editor(image: &[u8], layout: Layout, list: Item) -> u32
     ensures { λ r. ⌜ Editor (tablesAt layout (image .entry)) (list .0) r ⌝ }
 {

@@ -17,7 +17,7 @@ use Rattle.model.specs.Questions.{act}
 use Rattle.model.specs.Computing.{computing}
 use Rattle.model.specs.Sample.{workshop}
 use Rattle.laws.specs.Tests.{_and_, true-T}
-use Rattle.laws.specs.Sorted.{same-self}
+use Rattle.laws.specs.KeyOrder.{same-self}
 use Rattle.strangers.specs.Sequences.{run, writing, Stranger, Covered, Unchanged}
 use Rattle.strangers.specs.Sequences.Step.{changes, reads}
 use Rattle.strangers.specs.Sequences.Reading.{asks}

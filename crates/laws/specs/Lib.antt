@@ -3,6 +3,7 @@
 -- First the laws of the general definitions: tests, counts, sorted tables, sets, trees, rows by number, questions.
 pub mod Tests
 pub mod Counts
+pub mod KeyOrder
 pub mod Sorted
 pub mod Sets
 pub mod Tree

@@ -1,113 +1,25 @@
--- Laws of sorted tables, for any row type and key: the order of keys; what a search answers, in an ascending table and by halving
--- in any; what it finds after a row is put or cut; the length, the order and the facts about every row afterwards; and the new
--- table as the rows before the insertion index and those from it on. The laws about rows are proved by the three cases of
--- `order`: the first row's key is lower than the one sought, equal to it, or higher. None of them unfolds `search`: it is first
--- turned into the plain row and the plain count (`find-plain`, `index-counts`).
-use mathlib.Core.Bool.{Bool, true, false, _&&_, _||_, cond, false≢true}
+-- Laws of sorted tables, for any row type and key: what a search answers, in an ascending table and by halving in any; what it
+-- finds after a row is put or cut; the length, the order and the facts about every row afterwards; and the new table as the rows
+-- before the insertion index and those from it on. The laws about rows are proved by the three cases of `order`: the first row's
+-- key is lower than the one sought, equal to it, or higher. None of them unfolds `search`: it is first turned into the plain row
+-- and the plain count (`find-plain`, `index-counts`).
+use mathlib.Core.Bool.{true, false, _||_, false≢true}
 use mathlib.Core.List.{List, [], _∷_, _++_}
-use mathlib.Core.Logic.{_⊎_, inl, inr, _≢_}
+use mathlib.Core.Logic.{inl, inr, _≢_}
 use mathlib.Core.Option.{Option, none, some, Option·none-ne-some}
 use mathlib.Core.Path.{_≡_, refl, sym, ap, _∙_}
 use Prim.Native.Nat.{ℕ, zero, suc, _-_, _<_, _≤_}
-use native.Mathlib.Nat.{not-suc-le-zero, suc-le-suc-iff}
+use native.Mathlib.Nat.{suc-le-suc-iff}
 use native.Mathlib.Omega.{arith}
-use borrow.Author.Tests.{lt-ltb, le-ltb, ltb-true, ltb-false, eq-eqb, ne-eqb}
+use borrow.Author.Tests.{lt-ltb, le-ltb, ltb-true, ltb-false}
 use lib.Dec.{T, ltb, ltb→lt, leb·suc-suc}
 use lib.ListN.{length, getElem?, take, drop, length-append, length-take, length-drop}
-use Rattle.model.specs.Lists.{All, select, ifThere, isThere}
+use Rattle.model.specs.Lists.{All, ifThere, isThere}
 use Rattle.model.specs.Sorted.{before, same, Found, found, middle}
-use Rattle.model.specs.Sorted.{ascending, rowWith, countLower, halve, search, find, insertionIndex, put, cut}
-use Rattle.laws.specs.Tests.{T-true, true-T, and-i, and-l, and-r, two, lt-eq-gt, All-map, All-index}
-
--- The order of keys.
-
-pub before-self : (k : List ℕ) → before k k ≡ false
-before-self [] = refl
-before-self (x ∷ xs) = rw (le-ltb x x (omega arith), eq-eqb x x refl) (before-self xs)
-
-pub same-self : (k : List ℕ) → same k k ≡ true
-same-self [] = refl
-same-self (x ∷ xs) = rw (eq-eqb x x refl) (same-self xs)
-
--- A key is lower than another, equal to it or higher. Each case says what the tests answer.
-pub data Order (k l : List ℕ) : Type 0 where
-  lower : before k l ≡ true → before l k ≡ false → same k l ≡ false → Order k l
-  equal : k ≡ l → before k l ≡ false → same k l ≡ true → Order k l
-  higher : before l k ≡ true → before k l ≡ false → same k l ≡ false → Order k l
-
-before-tails : (x : ℕ) (xs ys : List ℕ) → before (x ∷ xs) (x ∷ ys) ≡ before xs ys
-before-tails x xs ys = rw (le-ltb x x (omega arith), eq-eqb x x refl)
-
-same-tails : (x : ℕ) (xs ys : List ℕ) → same (x ∷ xs) (x ∷ ys) ≡ same xs ys
-same-tails x xs ys = rw (eq-eqb x x refl)
-
-pub order : (k l : List ℕ) → Order k l
-order [] [] = Order.equal refl refl refl
-order [] (y ∷ ys) = Order.lower refl refl refl
-order (x ∷ xs) [] = Order.higher refl refl refl
-order (x ∷ xs) (y ∷ ys) = go (lt-eq-gt x y) (order xs ys)
-  where
-    tails : Order xs ys → Order (y ∷ xs) (y ∷ ys)
-    tails (Order.lower a b c) = Order.lower (before-tails y xs ys ∙ a) (before-tails y ys xs ∙ b) (same-tails y xs ys ∙ c)
-    tails (Order.equal a b c) = Order.equal (cc) (before-tails y xs ys ∙ b) (same-tails y xs ys ∙ c)
-    tails (Order.higher a b c) = Order.higher (before-tails y ys xs ∙ a) (before-tails y xs ys ∙ b) (same-tails y xs ys ∙ c)
-
-    go : (x < y) ⊎ ((x ≡ y) ⊎ (y < x)) → Order xs ys → Order (x ∷ xs) (y ∷ ys)
-    go (inl h) o = Order.lower (rw (lt-ltb x y h)) (rw (le-ltb y x (omega arith), ne-eqb y x (omega arith))) (rw (ne-eqb x y (omega arith)))
-    go (inr (inl h)) o = rw h (tails o)
-    go (inr (inr h)) o =
-        Order.higher (rw (lt-ltb y x h)) (rw (le-ltb x y (omega arith), ne-eqb x y (omega arith))) (rw (ne-eqb x y (omega arith)))
-
-pub same-or-not : (k l : List ℕ) → (k ≡ l) ⊎ (k ≢ l)
-same-or-not k l =
-    elim (order k l) [
-      | lower a b c ↦ inr (λ e. false≢true (sym c ∙ (rw e (same-self l))))
-      | equal a b c ↦ inl a
-      | higher a b c ↦ inr (λ e. false≢true (sym c ∙ (rw e (same-self l))))
-    ]
-
-same-is : (k l : List ℕ) → same k l ≡ true → k ≡ l
-same-is k l e =
-    elim (order k l) [
-      | lower a b c ↦ absurd (false≢true (sym c ∙ e))
-      | equal a b c ↦ a
-      | higher a b c ↦ absurd (false≢true (sym c ∙ e))
-    ]
-
-not-same : (k l : List ℕ) → k ≢ l → same k l ≡ false
-not-same k l d = elim (order k l) [ lower a b c ↦ c | equal a b c ↦ absurd (d a) | higher a b c ↦ c ]
-
-pub before-not-after : (k l : List ℕ) → before k l ≡ true → before l k ≡ false
-before-not-after k l e = elim (order k l) [ lower a b c ↦ b | equal a b c ↦ cc | higher a b c ↦ cc ]
-
-pub before-heads : (x y : ℕ) (xs ys : List ℕ) → before (x ∷ xs) (y ∷ ys) ≡ true → (x < y) ⊎ ((x ≡ y) × (before xs ys ≡ true))
-before-heads x y xs ys e = go (lt-eq-gt x y)
-  where
-    go : (x < y) ⊎ ((x ≡ y) ⊎ (y < x)) → (x < y) ⊎ ((x ≡ y) × (before xs ys ≡ true))
-    go (inl h) = inl h
-    go (inr (inl h)) = inr (h, sym (before-tails y xs ys) ∙ (rw h at e))
-    go (inr (inr h)) = absurd (false≢true (rw (le-ltb x y (omega arith), ne-eqb x y (omega arith)) at e))
-
-pub before-trans : (k l m : List ℕ) → before k l ≡ true → before l m ≡ true → before k m ≡ true
-before-trans [] [] m e f = absurd (false≢true e)
-before-trans [] (y ∷ ys) [] e f = f
-before-trans [] (y ∷ ys) (z ∷ zs) e f = refl
-before-trans (x ∷ xs) [] m e f = absurd (false≢true e)
-before-trans (x ∷ xs) (y ∷ ys) [] e f = f
-before-trans (x ∷ xs) (y ∷ ys) (z ∷ zs) e f = go (before-heads x y xs ys e) (before-heads y z ys zs f) (before-trans xs ys zs)
-  where
-    go : (x < y) ⊎ ((x ≡ y) × (before xs ys ≡ true))
-        → (y < z) ⊎ ((y ≡ z) × (before ys zs ≡ true))
-        → (before xs ys ≡ true → before ys zs ≡ true → before xs zs ≡ true)
-        → before (x ∷ xs) (z ∷ zs) ≡ true
-    go (inl a) (inl b) ih = rw (lt-ltb x z (omega arith))
-    go (inl a) (inr b) ih = rw (lt-ltb x z (omega arith))
-    go (inr a) (inl b) ih = rw (lt-ltb x z (omega arith))
-    go (inr a) (inr b) ih = rw (a .0, b .0) (before-tails z xs zs ∙ ih (a .1) (b .1))
-
--- The middle of two indices is not before the first, and before the second.
-pub middle-within : (first end : ℕ) → first < end → (first ≤ middle first end) × (middle first end < end)
-middle-within first end h = (omega arith, omega arith)
+use Rattle.model.specs.Sorted.{ascending, rowWith, countLower, lowerAt, sameAt, halve, search, find, insertionIndex, put, cut}
+use Rattle.laws.specs.Tests.{T-true, true-T, and-i, and-l, and-r, two, All-map, All-index}
+use Rattle.laws.specs.KeyOrder.{before-self, same-self, order, same-is, not-same, before-not-after, before-trans, middle-within}
+use Rattle.laws.specs.KeyOrder.Order.{lower, equal, higher}
 
 -- A fact about a row that may be missing.
 abbrev pub IfSome : {A : Type 0} → (A → Type 0) → Option A → Type 0
@@ -320,13 +232,7 @@ module _ {A : Type 0} (key : A → List ℕ) where
   -- Halving an ascending table comes to the row with the key and to the number of rows with a lower one. By index, the rows
   -- with lower keys come first, and a row with the key stands right behind them.
 
-  abbrev isLower : List ℕ → List A → ℕ → Bool
-  isLower k xs n = ifThere (λ x. before (key x) k) (getElem? xs n)
-
-  abbrev isHit : List ℕ → List A → ℕ → Bool
-  isHit k xs n = ifThere (λ x. same (key x) k) (getElem? xs n)
-
-  lower-first : (k : List ℕ) (xs : List A) (n : ℕ) → T (ascending key xs) → isLower k xs n ≡ ltb n (countLower key k xs)
+  lower-first : (k : List ℕ) (xs : List A) (n : ℕ) → T (ascending key xs) → lowerAt key k xs n ≡ ltb n (countLower key k xs)
   lower-first k [] n up = sym (le-ltb n 0 (omega arith))
   lower-first k (x ∷ xs) zero up =
       elim (split k x xs up) [
@@ -335,7 +241,7 @@ module _ {A : Type 0} (key : A → List ℕ) where
         | nowhere l m z o ↦ rw (l, z)
       ]
   lower-first k (x ∷ xs) (suc n) up =
-      let rest : isLower k xs n ≡ ltb n (countLower key k xs) = lower-first k xs n (ascending-tail x xs up) in
+      let rest : lowerAt key k xs n ≡ ltb n (countLower key k xs) = lower-first k xs n (ascending-tail x xs up) in
       elim (split k x xs up) [
         | behind l m ↦ rw (l, leb·suc-suc) rest
         | here i l m z o ↦ rw (l, z) (rest ∙ rw (z, le-ltb n 0 (omega arith)) (sym (le-ltb (suc n) 0 (omega arith))))
@@ -344,7 +250,7 @@ module _ {A : Type 0} (key : A → List ℕ) where
 
   hit-next : (k : List ℕ) (xs : List A) (n : ℕ)
       → T (ascending key xs)
-      → isHit k xs n ≡ true
+      → sameAt key k xs n ≡ true
       → (n ≡ countLower key k xs) × (getElem? xs n ≡ rowWith key k xs)
   hit-next k [] n up e = absurd (false≢true e)
   hit-next k (x ∷ xs) zero up e =
@@ -364,7 +270,7 @@ module _ {A : Type 0} (key : A → List ℕ) where
   hit-there : (k : List ℕ) (xs : List A) (r : A)
       → T (ascending key xs)
       → rowWith key k xs ≡ some r
-      → isHit k xs (countLower key k xs) ≡ true
+      → sameAt key k xs (countLower key k xs) ≡ true
   hit-there k xs r up e = rw (row-counted k xs r up e, row-there k xs r e .1) (same-self k)
 
   -- The count is between the two indices, and a row with the key is in front of the second.
@@ -401,7 +307,7 @@ module _ {A : Type 0} (key : A → List ℕ) where
                 | inr l ↦
                     let high : countLower key k xs ≤ middle first end = ltb-false (middle first end) (countLower key k xs) l in
                     let fewer : middle first end - first ≤ n = omega (arith, within .0, within .1) in
-                    rw l (elim (two (isHit k xs (middle first end))) [
+                    rw l (elim (two (sameAt key k xs (middle first end))) [
                       | inl h ↦ let next = hit-next k xs (middle first end) up h in rw (h, next .1, next .0)
                       | inr h ↦ rw h (halve-comes n first (middle first end) from high fewer (λ r m.
                           let other : middle first end ≡ countLower key k xs → ⊥ =
@@ -447,9 +353,9 @@ module _ {A : Type 0} (key : A → List ℕ) where
     All-halve zero first end = tt
     All-halve (suc n) first end =
         elim (two (ltb first end)) [
-          | inl e ↦ rw e (elim (two (isLower k xs (middle first end))) [
+          | inl e ↦ rw e (elim (two (lowerAt key k xs (middle first end))) [
             | inl l ↦ rw l (All-halve n (suc (middle first end)) end)
-            | inr l ↦ rw l (elim (two (isHit k xs (middle first end))) [
+            | inr l ↦ rw l (elim (two (sameAt key k xs (middle first end))) [
               | inl h ↦ rw h (All-hit (middle first end) (getElem? xs (middle first end)) refl h)
               | inr h ↦ rw h (All-halve n first (middle first end))
             ])

@@ -50,14 +50,22 @@ module _ {A : Type 0} (key : A → List ℕ) where
   abbrev pub countLower : List ℕ → List A → ℕ
   countLower k xs = length (select (λ x. before (key x) k) xs)
 
+  -- the row with index n is there, and its key is lower than k; and is k
+  abbrev pub lowerAt : List ℕ → List A → ℕ → Bool
+  lowerAt k xs n = ifThere (λ x. before (key x) k) (getElem? xs n)
+
+  abbrev pub sameAt : List ℕ → List A → ℕ → Bool
+  sameAt k xs n = ifThere (λ x. same (key x) k) (getElem? xs n)
+
   -- Halving: the row in the middle decides whether the search goes on behind it, ends there, or goes on in front of it. The
   -- first argument is how many steps are still allowed.
   unfoldable pub halve : ℕ → List ℕ → List A → ℕ → ℕ → Found A
   halve zero k xs first end = found first none
   halve (suc n) k xs first end =
-      cond (ltb first end) (cond (ifThere (λ x. before (key x) k) (getElem? xs (middle first end)))
-      (halve n k xs (suc (middle first end)) end) (cond (ifThere (λ x. same (key x) k) (getElem? xs (middle first end)))
-      (found (middle first end) (getElem? xs (middle first end))) (halve n k xs first (middle first end)))) (found first none)
+      let m : ℕ = middle first end in
+      cond (ltb first end)
+      (cond (lowerAt k xs m) (halve n k xs (suc m) end) (cond (sameAt k xs m) (found m (getElem? xs m)) (halve n k xs first m)))
+      (found first none)
 
   -- The search for key k. In an ascending table, and an accepted image has no others, it answers the row with the key and the
   -- number of rows with a lower one. Elsewhere it answers what halving comes to, so that it is defined for any rows.

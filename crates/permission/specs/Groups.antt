@@ -69,7 +69,9 @@ module _ (up : ℕ → ℕ) (lines : List LineRow) (a : ℕ) where
 
     pub passed-out : (r : ℕ) → Climbed up bound g r → bound ≤ r → NothingFound ≡ ruleFrom up lines g a
     passed-out r climbed in-bound =
-        let top : lineFrom up lines g a ≡ none = passed r (climbed .way) ∙ from-top r (no-line r in-bound (way-low up bound g r (climbed .way))) (out (climbed .ends)) in
+        let top : lineFrom up lines g a ≡ none =
+        passed r (climbed .way)
+        ∙ from-top r (no-line r in-bound (way-low up bound g r (climbed .way))) (out (climbed .ends)) in
         rw top
       where
         out : (r < bound) ⊎ (r ≤ up r) → r ≤ up r

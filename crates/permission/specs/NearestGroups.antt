@@ -3,7 +3,7 @@
 use mathlib.Core.Bool.{Bool, true, false, false≢true}
 use mathlib.Core.List.{List, [], _∷_}
 use mathlib.Core.Logic.{_⊎_, inl, inr}
-use mathlib.Core.Option.{none, some}
+use mathlib.Core.Option.{some}
 use mathlib.Core.Path.{_≡_, refl, sym, ap, _∙_}
 use Prim.Native.Nat.{ℕ, _+_, _<_, _≤_}
 use native.Mathlib.Nat.{le-of-eq}
@@ -13,10 +13,10 @@ use lib.ListN.{getD}
 use Rattle.model.specs.declared.Layout.{Layout}
 use Rattle.model.specs.declared.LineRow.{LineRow}
 use Rattle.model.specs.Sorted.{before, same, Found, middle, find}
-use Rattle.model.specs.Image.{rowsIn, tablesBy, widthOf, lineFormat, lineKey, groupKind, noLine}
+use Rattle.model.specs.Image.{rowsIn, widthOf, lineFormat, lineKey, groupKind, noLine}
 use Rattle.laws.specs.Tests.{eq-or-ne}
-use Rattle.laws.specs.Sorted.{order, before-self, before-heads, before-trans}
-use Rattle.laws.specs.Sorted.Order.{lower, equal, higher}
+use Rattle.laws.specs.KeyOrder.{order, before-self, before-heads, before-trans}
+use Rattle.laws.specs.KeyOrder.Order.{lower, equal, higher}
 use Rattle.search.specs.Keys.{before-equal}
 use Rattle.search.specs.Halving.{Halving, halving-all, halving-behind, halving-found, halving-front, halving-over}
 use Rattle.permission.specs.Climbing.{NoneFrom, Behind}

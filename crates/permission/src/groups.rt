@@ -44,8 +44,8 @@ pub fn group_rule(image: &[u8], layout: Layout, subject: Subject, list: Item) ->
 }
 
 // The same from a group on: its own line, or the lowest one above it. The search goes up by recursion on the group's number,
-// which falls. It passes over the groups that are known to have no line, so there are never more levels than the list has group
-// lines.
+// which falls. It passes over the groups that are known to have no line, so there is at most one level more than the list has
+// group lines.
 fn rule_from(image: &[u8], layout: Layout, group: Subject, list: Item) -> Rule
     requires { ⌜ list .0 ≢ 0 ⌝ }
     ensures { λ r. let t = tablesAt layout (image .entry) in

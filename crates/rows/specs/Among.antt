@@ -1,7 +1,7 @@
 -- A row of a table read from the slice of all its rows: a row that is not there, or not whole, is the row of zeros.
 use mathlib.Core.List.{List, []}
 use mathlib.Core.Logic.{inl, inr, ⊎-elim}
-use mathlib.Core.Path.{_≡_, refl, sym, ap, _∙_}
+use mathlib.Core.Path.{_≡_, sym, ap, _∙_}
 use Prim.Native.Nat.{ℕ, suc, _+_, _-_, _*_, _/_, _<_, _≤_}
 use native.Mathlib.Nat.{le-of-eq, le-div-iff-mul-le, div-lt-iff-lt-mul, mul-le-mul-right, suc-mul, add-sub-cancel-left}
 use native.Mathlib.Omega.{arith}
@@ -139,7 +139,8 @@ module _ {A : Type 0} (f : Format A) (law : Lawful f) (s : List ℕ) (k : ℕ) w
       ]
 
   -- as the code reads it: n is the size of a row, and b is the slice that was found for it
-  pub among-read : (n : ℕ) → n ≡ size f → (b : List ℕ) → b ≡ amongSlice n k s → (r : A) → r ≡ rowOf f b → r ≡ firstRow f (drop (k * size f) s)
+  pub among-read : (n : ℕ) → n ≡ size f → (b : List ℕ) → b ≡ amongSlice n k s → (r : A) → r ≡ rowOf f b
+      → r ≡ firstRow f (drop (k * size f) s)
   among-read n wide b is r e = e ∙ ap (rowOf f) (is ∙ ap (λ (m : ℕ). amongSlice m k s) wide) ∙ among-first
 
 -- The slice has no more whole rows than are in use, and every row past its whole rows is the row of zeros.

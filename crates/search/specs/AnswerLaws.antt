@@ -2,7 +2,7 @@
 use mathlib.Core.Bool.{Bool, true, false, _||_, cond}
 use mathlib.Core.List.{List}
 use mathlib.Core.Option.{Option, none, some}
-use mathlib.Core.Path.{_≡_, refl, sym, ap, _∙_}
+use mathlib.Core.Path.{_≡_, refl, ap, _∙_}
 use Prim.Native.Nat.{ℕ}
 use lib.Dec.{ltb}
 use lib.ListN.{length}
@@ -94,7 +94,8 @@ existing-there {A = A} f = go (f .row)
     go (some x) = refl
 
 -- b is computed from the row index; it is the same as computed from the row that `find` finds
-pub index-found : {A : Type 0} (key : A → List ℕ) (k : List ℕ) (index : RowIndex) (b : Bool) (f : Format A) (table : Table) (img : List ℕ) (cap : ℕ)
+pub index-found : {A : Type 0} (key : A → List ℕ) (k : List ℕ) (index : RowIndex) (b : Bool)
+    (f : Format A) (table : Table) (img : List ℕ) (cap : ℕ)
     → index ≡ rowIndex key k (rowsIn f table img)
     → b ≡ (isExisting index || ltb (table .used) cap)
     → b ≡ (isThere (find key k (rowsIn f table img)) || ltb (length (rowsIn f table img)) cap)

@@ -11,11 +11,12 @@ use Rattle.model.specs.declared.GrantRow.{GrantRow}
 use Rattle.model.specs.declared.Layout.{Layout}
 use Rattle.model.specs.declared.LineRow.{LineRow}
 use Rattle.model.specs.declared.Table.{Table}
-use Rattle.model.specs.Sorted.{before, same, Found, found, middle, halve, search}
+use Rattle.model.specs.Sorted.{before, same, found, middle, halve, search}
 use Rattle.model.specs.Image.{Format, size, firstRow, rowsIn, widthOf, grantFormat, noGrant, lineFormat, noLine}
 use Rattle.laws.specs.Tests.{index-there}
 use Rattle.laws.specs.Rows.{Lawful, rows-count, grant-lawful, line-lawful}
-use Rattle.laws.specs.Sorted.{middle-within, search-halves}
+use Rattle.laws.specs.KeyOrder.{middle-within}
+use Rattle.laws.specs.Sorted.{search-halves}
 use Rattle.rows.specs.Reading.{rowsSlice}
 use Rattle.rows.specs.Among.{among-row}
 

@@ -124,7 +124,9 @@ module _ {A : Type 0} (f : Format A) (table : Table) (counter cap : ℕ) (img : 
         → new ≡ act img c .image
     row-set x index leaves-so free found e =
         done (e ∙ ap (λ (s : RowIndex). storedAt f counter table s x img) found)
-        (put-stored f key d table counter cap img bytesFor (stored accepted) x (sorted accepted) (free (was-passed img c a answered m said)) ∙ sym leaves-so)
+        (put-stored f key d table counter cap img bytesFor (stored accepted) x (sorted accepted)
+        (free (was-passed img c a answered m said))
+        ∙ sym leaves-so)
 
     pub row-cut : (k : List ℕ) (n : ℕ)
         → encode (after (tables img) c) ≡ bytesFor (cut key k rows)
@@ -135,7 +137,8 @@ module _ {A : Type 0} (f : Format A) (table : Table) (counter cap : ℕ) (img : 
         → new ≡ act img c .image
     row-cut k n leaves-so there few found e =
         done (e ∙ ap (λ (i : ℕ). withoutRow f counter table i img) found)
-        (cut-stored f key d table counter cap img bytesFor (stored accepted) k (sorted accepted) (there (was-passed img c a answered m said)) (few accepted)
+        (cut-stored f key d table counter cap img bytesFor (stored accepted) k (sorted accepted)
+        (there (was-passed img c a answered m said)) (few accepted)
         ∙ sym leaves-so)
 
 -- an item's row replaced

@@ -24,7 +24,8 @@ use Rattle.model.specs.Calls.{Change, callerOf, withSubjects, withGrants, withL
 use Rattle.model.specs.Calls.Change.{defineSubject, setGrant, removeGrant, setLine, removeLine, createItem, bind, handOver}
 use Rattle.model.specs.Questions.{questions, givenBy, mayBind}
 use Rattle.laws.specs.Tests.{and-l, or-cases}
-use Rattle.laws.specs.Sorted.{All-put, All-cut, same-or-not, find-put-other, find-cut-other}
+use Rattle.laws.specs.KeyOrder.{same-or-not}
+use Rattle.laws.specs.Sorted.{All-put, All-cut, find-put-other, find-cut-other}
 use Rattle.laws.specs.Numbered.{subject-same, item-same, item-other, length-set-item}
 use Rattle.laws.specs.WellFormed.{WellFormed, Passed}
 use Rattle.laws.specs.Kept.{grants-ascending, lines-ascending}

@@ -10,7 +10,8 @@ use Rattle.asking.proofs.holders.count_subjects.Statement.{statement}
 use Rattle.asking.proofs.holders.count_subjects.Tie as tie
 
 abbrev Inv-loop : tie.InvT-loop
-Inv-loop image layout item counts₀ row used subject₀ counts subject = Tally (tablesBy layout image) (item .0) (length counts₀) subject counts
+Inv-loop image layout item counts₀ row used subject₀ counts subject =
+    Tally (tablesBy layout image) (item .0) (length counts₀) subject counts
 
 abbrev μ-loop : tie.MeasureT-loop
 μ-loop image layout item counts₀ row used subject₀ counts subject = used - subject

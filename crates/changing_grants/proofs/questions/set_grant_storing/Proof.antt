@@ -43,15 +43,19 @@ returns-4 : tie.Need-returns-4
 unfolding questions tablesBy
 returns-4 c =
     let sought = c .before .before .before .before .before in
-    let stored-at = grant-row-index _ _ (sought .search-grant .result) _ (sought .search-grant .ensures) (c .before .before .row-index .ensures) in
+    let stored-at =
+    grant-row-index _ _ (sought .search-grant .result) _ (sought .search-grant .ensures) (c .before .before .row-index .ensures) in
     store-also _ _ _ (search (store-refused, named-yes, asked-yes, asked-no, set-found, index-found, stored-at) depth 6)
 
 returns-5 : tie.Need-returns-5
 unfolding questions tablesBy
 returns-5 c =
     let sought = c .before .before .before .before .before in
-    let stored-at = grant-row-index _ _ (sought .search-grant .result) _ (sought .search-grant .ensures) (c .before .before .row-index .ensures) in
-    let given = set-found _ _ _ (sought .search-grant .result) (sought .search-grant .ensures) _ (c .before .before .before .before .may-set .ensures) in
+    let stored-at =
+    grant-row-index _ _ (sought .search-grant .result) _ (sought .search-grant .ensures) (c .before .before .row-index .ensures) in
+    let given =
+    set-found _ _ _ (sought .search-grant .result) (sought .search-grant .ensures) _
+    (c .before .before .before .before .may-set .ensures) in
     let free = index-found _ _ _ _ _ _ _ _ stored-at (c .before .has-row-for .ensures) in
     store-also _ _ _
     (search (

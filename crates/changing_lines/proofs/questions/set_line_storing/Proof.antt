@@ -42,14 +42,16 @@ returns-3 : tie.Need-returns-3
 unfolding questions tablesBy
 returns-3 c =
     let sought = c .before .before .before in
-    let stored-at = line-row-index _ _ (sought .search-line .result) _ (sought .search-line .ensures) (c .before .before .row-index .ensures) in
+    let stored-at =
+    line-row-index _ _ (sought .search-line .result) _ (sought .search-line .ensures) (c .before .before .row-index .ensures) in
     store-also _ _ _ (search (store-refused, named-yes, right-yes, asked-no, index-found, stored-at))
 
 returns-4 : tie.Need-returns-4
 unfolding questions tablesBy
 returns-4 c =
     let sought = c .before .before .before in
-    let stored-at = line-row-index _ _ (sought .search-line .result) _ (sought .search-line .ensures) (c .before .before .row-index .ensures) in
+    let stored-at =
+    line-row-index _ _ (sought .search-line .result) _ (sought .search-line .ensures) (c .before .before .row-index .ensures) in
     store-also _ _ _ (search (store-at, named-yes, right-yes, asked-yes, asked-all, index-found, stored-at))
 
 pub set-line-storing-spec : {M : Type 1} → statement M

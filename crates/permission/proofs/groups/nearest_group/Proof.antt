@@ -6,7 +6,8 @@ use borrow.Author.Needs.{needs}
 use Rattle.model.specs.Image.{tablesBy}
 use Rattle.laws.specs.Tests.{was-yes}
 use Rattle.search.specs.Halving.{line-read}
-use Rattle.permission.specs.NearestGroups.{Narrowing, narrowing-all, narrowing-inside, narrowing-behind, narrowing-found, narrowing-front, narrowing-over}
+use Rattle.permission.specs.NearestGroups.{Narrowing, narrowing-all, narrowing-inside}
+use Rattle.permission.specs.NearestGroups.{narrowing-behind, narrowing-found, narrowing-front, narrowing-over}
 use Rattle.permission.proofs.groups.nearest_group.Statement.{statement}
 use Rattle.permission.proofs.groups.nearest_group.Tie as tie
 
@@ -38,7 +39,8 @@ add-first : tie.Need-add-first Inv-loop μ-loop
 add-first c =
     let entry = c .before .before .before .before .before .before .before .before .before .before in
     let used-fits : entry .args .layout .lines .used < 4294967296 = entry .good .1 .0 .1 .1 .1 .1 .0 .1 .1 .0 .1 in
-    record { fits = omega (arith, used-fits, narrowing-inside _ _ _ _ _ _ _ (c .before .before .before .before .before .before .loop .inv)) }
+    let inside = narrowing-inside _ _ _ _ _ _ _ (c .before .before .before .before .before .before .loop .inv) in
+    record { fits = omega (arith, used-fits, inside) }
 
 loop-less : tie.Need-loop-less Inv-loop μ-loop
 loop-less c = omega arith
@@ -54,7 +56,8 @@ unfolding tablesBy
 returns c =
     let half = c .before .before .before .before .before in
     narrowing-found _ _ _ _ _ _ _ (half .before .before .loop .inv) (half .before .loop-test .taken) _ (half .middle-index .ensures) _
-    (search line-read) _ (c .before .before .before .line-before .ensures) (c .before .before .if1 .left) _ (c .before .is-line .ensures) (c .if2 .taken)
+    (search line-read) _ (c .before .before .before .line-before .ensures) (c .before .before .if1 .left) _
+    (c .before .is-line .ensures) (c .if2 .taken)
 
 loop-less-2 : tie.Need-loop-less-2 Inv-loop μ-loop
 loop-less-2 c = omega arith

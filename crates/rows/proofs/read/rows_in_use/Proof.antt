@@ -19,10 +19,14 @@ cast-end : tie.Need-cast-end
 cast-end c = search needs
 
 mul-end : tie.Need-mul-end
-mul-end c = record { fits = omega (arith, product-near (c .before .before .before .args .table .used) (c .before .before .before .args .size) (search needs)) }
+mul-end c =
+    let entry = c .before .before .before in
+    record { fits = omega (arith, product-near (entry .args .table .used) (entry .args .size) (search needs)) }
 
 add-end : tie.Need-add-end
-add-end c = record { fits = omega (arith, product-near (c .before .before .before .args .table .used) (c .before .before .before .args .size) (search needs)) }
+add-end c =
+    let entry = c .before .before .before in
+    record { fits = omega (arith, product-near (entry .args .table .used) (entry .args .size) (search needs)) }
 
 sub-result : tie.Need-sub-result
 sub-result c = search needs

@@ -50,7 +50,8 @@ unfolding tablesBy
 returns c =
     let half = c .before .before .before .before .before in
     halving-found _ _ _ _ _ _ _ _ (half .before .before .loop .inv) (half .before .loop-test .taken) _ (half .middle-index .ensures) _
-    (search grant-read) _ (c .before .before .before .grant-before .ensures) (c .before .before .if1 .left) _ (c .before .is-grant .ensures) (c .if2 .taken)
+    (search grant-read) _ (c .before .before .before .grant-before .ensures) (c .before .before .if1 .left) _
+    (c .before .is-grant .ensures) (c .if2 .taken)
 
 loop-less-2 : tie.Need-loop-less-2 Inv-loop μ-loop
 loop-less-2 c = omega arith
