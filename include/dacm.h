@@ -30,9 +30,9 @@ extern "C" {
 
 /* The version of this header. */
 #define DACM_VERSION_MAJOR 0
-#define DACM_VERSION_MINOR 3
+#define DACM_VERSION_MINOR 4
 #define DACM_VERSION_PATCH 0
-#define DACM_VERSION "0.3.0"
+#define DACM_VERSION "0.4.0"
 
 /* The stack that a call may need. */
 #define DACM_STACK_BYTES 524288
@@ -93,7 +93,7 @@ typedef struct { uint32_t number; uint32_t result; } dacm_answer;
 /* The rules of an explanation. The first that applies decides. */
 #define DACM_RULE_CUSTODIAN     UINT32_C(1) /* the subject is the custodian, who has every privilege */
 #define DACM_RULE_OWNER_LINE    UINT32_C(2) /* the subject owns the item, and the list has a line for the owner */
-#define DACM_RULE_OWN_LINE      UINT32_C(3) /* the subject does not own the item, and the list has a line for it */
+#define DACM_RULE_OWN_LINE      UINT32_C(3) /* the list has a line for the subject itself, who may be the owner */
 #define DACM_RULE_GROUP_LINE    UINT32_C(4) /* the list has a line for a group above the subject; the nearest decides */
 #define DACM_RULE_NOTHING_FOUND UINT32_C(5) /* there is no such line, or no list */
 

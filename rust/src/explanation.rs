@@ -12,7 +12,8 @@ pub enum Rule {
     Custodian,
     /// The subject owns the item, and the list has a line for the owner.
     OwnerLine,
-    /// The subject does not own the item, and the list has a line for the subject itself.
+    /// The list has a line for the subject itself. This decides for an owner too where the list has
+    /// no line for the owner.
     OwnLine,
     /// The list has a line for the group of this subject, the nearest above the one that asks. It
     /// may be the custodian.

@@ -116,13 +116,55 @@ fn an_owner_line_of_0_decides() {
     assert_explains(&tables, ([4, 0, 3], [OWNER_LINE, 0, 0, 1, 0, 9]));
 }
 
-/// He goes straight to the group search, past his own line.
-#[test]
-fn an_owner_without_an_owner_line() {
+/// The sample without its owner line, the last but one.
+fn without_owner_line() -> Tables {
     let mut tables = sample();
     tables.lines.rows.remove(3);
-    assert_explains(&tables, ([4, 0, 3], [NOTHING_FOUND, 0, 0, 1, 0, 9]));
+    tables
+}
+
+/// Subject 4 is named on the list. Subject 2 is not, and has what the group gives.
+#[test]
+fn an_owner_without_an_owner_line() {
+    let tables = without_owner_line();
+    assert_explains(&tables, ([4, 0, 3], [OWN_LINE, 0, 8, 1, 0, 9]));
     assert_explains(&tables, ([2, 0, 2], [GROUP_LINE, 1, 3, 1, 0, 91]));
+}
+
+/// The group of 1 would give subject 5 more.
+#[test]
+fn an_own_line_of_0_decides_for_the_owner_too() {
+    let mut tables = without_owner_line();
+    tables.items.rows[0] = [5, 1, 1];
+    assert_explains(&tables, ([5, 0, 1], [OWN_LINE, 0, 0, 1, 0, 3]));
+}
+
+/// Subject 2 owns item 2 and grants role 7 to 4. What it has on the item by its own line, it can lend.
+#[test]
+fn a_grantor_who_is_an_owner_without_an_owner_line() {
+    let mut tables = without_owner_line();
+    tables.lines.rows.insert(0, [1, ITSELF, 2, 8]);
+    assert_explains(&tables, ([4, 7, 2], [OWN_LINE, 0, 8, 1, 1, 11]));
+}
+
+/// Subject 1 owns the list, which is its own list. By its own line it may edit it, so it is found and
+/// may set a line.
+#[test]
+fn an_owner_who_may_edit_by_the_own_line() {
+    let mut tables = without_owner_line();
+    tables.lines.rows.insert(0, [1, ITSELF, 1, 64]);
+    let image = &mut tables.image();
+    assert_eq!(answer(image, Call::FindEditor { list: 1 }), accepted(1));
+    let set = Call::SetLine {
+        caller: 1,
+        role: 0,
+        list: 1,
+        kind: OWNER,
+        subject: 0,
+        privileges: 7,
+    };
+    assert_eq!(answer(image, set), accepted(0));
+    assert_eq!(answer(image, Call::FindEditor { list: 1 }), refused(20));
 }
 
 /// Even if its line holds 0. The custodian's group is the highest.
@@ -216,6 +258,12 @@ fn the_counts_of_the_four_items() {
     for (item, first) in counted {
         assert_counts(&sample(), item, with_custodian(&first));
     }
+}
+
+/// Without the owner line, subject 4 may annotate its item 3 by its own line.
+#[test]
+fn the_counts_with_an_owners_own_line() {
+    assert_counts(&without_owner_line(), 3, with_custodian(&[6, 2, 1, 2]));
 }
 
 /// Counts that begin with these. At the other positions the custodian is the only holder.

@@ -10,7 +10,6 @@ use dacm::{Explanation, Item, Kind, Privileges, Refusal, Role, Rule, Subject, ST
 use std::thread;
 use support::tables::{Table, Tables};
 
-const ITSELF: u32 = 0;
 const GROUP: u32 = 1;
 const IS_LIST: u32 = 1;
 const ALL: u32 = Privileges::ALL.0;
@@ -133,13 +132,15 @@ fn a_group_line_between_every_two_groups() {
     assert_eq!(answers, [Ok(0), Ok(1), no_editor, refused, refused]);
 }
 
-/// Under a role there are two searches: one for the asker, one for the role's grantor.
+/// Under a role there are two searches: one for the asker, one for the role's grantor. He owns the
+/// item, and without an owner line and a line of his own he has what his groups have.
 #[test]
 fn under_a_role() {
     let grant = |asker: u32| vec![[asker, 7, asker - 1, asker - 1, ALL]];
-    let many = chain(grant(1), vec![[1, ITSELF, 0, 0]]).subjects.used() as u32;
+    let line_at_the_top = || vec![[1, GROUP, 0, READ]];
+    let many = chain(grant(1), line_at_the_top()).subjects.used() as u32;
     let (asker, grantor) = (many - 1, many - 2);
-    let mut tables = chain(grant(asker), vec![[1, ITSELF, grantor, READ]]);
+    let mut tables = chain(grant(asker), line_at_the_top());
     tables.items.rows[0][0] = grantor;
     let image = tables.image();
     let (set, explained) = on_promised_stack(move || {
@@ -147,10 +148,10 @@ fn under_a_role() {
         let set = dacm::permission_set(&image, asker, role, item);
         (set, dacm::explain(&image, asker, role, item))
     });
-    assert_eq!(set, Ok(Privileges::NONE));
+    assert_eq!(set, Ok(Privileges::READ));
     let explanation = explained.expect("subject and item are in use");
-    assert_eq!(explanation.rule, Rule::NothingFound);
-    assert_eq!(explanation.role_set, Privileges::NONE);
+    assert_eq!(explanation.rule, Rule::GroupLine(Subject::CUSTODIAN));
+    assert_eq!(explanation.role_set, Privileges::READ);
 }
 
 /// The header promises the same stack.

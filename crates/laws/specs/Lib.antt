@@ -32,3 +32,5 @@ pub mod Holders
 pub mod Standing
 pub mod Nearest
 pub mod Reasons
+-- Last what document 02, P4, changes of equation 8 as printed.
+pub mod Amended

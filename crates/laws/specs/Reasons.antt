@@ -17,8 +17,7 @@ use Rattle.model.specs.Image.{itselfKind, groupKind, ownerKind, everyoneKind}
 use Rattle.model.specs.Permission.{lineIn, lineSet, groupLine, ruleBy, groupRule, ownRule, ownerRule, decidingRule}
 use Rattle.model.specs.Permission.{ruleNumber, ruleGroup, ruleSet, everyoneSet, ruleOn, ruleSetOn, everyoneOn, partOn}
 use Rattle.model.specs.Permission.{permissionSet, objectUnder, permissionUnder, explanationUnder, explanation, putTogether}
-use Rattle.model.specs.Reasons.{NoDirectLine, Decides, Adds}
-use Rattle.model.specs.Reasons.NoDirectLine.{no-owner-line, no-own-line}
+use Rattle.model.specs.Reasons.{NoOwnerLine, NoDirectLine, Decides, Adds}
 use Rattle.model.specs.Reasons.Decides.{by-custodian, by-owner-line, by-own-line, by-group-line, by-nothing}
 use Rattle.model.specs.Reasons.Adds.{not-to-custodian, by-everyones-line, no-everyones-line}
 use Rattle.model.specs.Calls.{askResult}
@@ -57,25 +56,26 @@ module _ (t : Tables) (hold : T (linesHold t)) (s : ℕ) (x : ItemRow) where
             by-group-line other direct (m .0) (stands t hold (x .list .0) groupKind (l .subject .0) l (m .1 .0))
             (λ p above between. absent t hold (x .list .0) groupKind p (m .1 .1 p above between))
 
+    by-own : NoOwnerLine t s x → Says (ownRule up (t .lines) s (x .list .0))
+    unfolding ownRule
+    by-own no-owner-line = go (lineIn (t .lines) (x .list .0) itselfKind s) refl
+      where
+        go : (o : Option LineRow)
+            → lineIn (t .lines) (x .list .0) itselfKind s ≡ o
+            → Says (ruleBy OwnLine o (groupRule up (t .lines) s (x .list .0)))
+        go none e =
+            by-groups (record { no-owner-line = no-owner-line; no-own-line = absent t hold (x .list .0) itselfKind s e })
+        go (some l) e = by-own-line other no-owner-line (stands t hold (x .list .0) itselfKind s l e)
+
     by-owner : s ≡ x .owner .0 → Says (ownerRule up (t .lines) s (x .list .0))
     unfolding ownerRule
     by-owner owns = go (lineIn (t .lines) (x .list .0) ownerKind 0) refl
       where
         go : (o : Option LineRow)
             → lineIn (t .lines) (x .list .0) ownerKind 0 ≡ o
-            → Says (ruleBy OwnerLine o (groupRule up (t .lines) s (x .list .0)))
-        go none e = by-groups (no-owner-line owns (absent t hold (x .list .0) ownerKind 0 e))
+            → Says (ruleBy OwnerLine o (ownRule up (t .lines) s (x .list .0)))
+        go none e = by-own (λ is. absent t hold (x .list .0) ownerKind 0 e)
         go (some l) e = by-owner-line other owns (stands t hold (x .list .0) ownerKind 0 l e)
-
-    by-other : s ≢ x .owner .0 → Says (ownRule up (t .lines) s (x .list .0))
-    unfolding ownRule
-    by-other owns-not = go (lineIn (t .lines) (x .list .0) itselfKind s) refl
-      where
-        go : (o : Option LineRow)
-            → lineIn (t .lines) (x .list .0) itselfKind s ≡ o
-            → Says (ruleBy OwnLine o (groupRule up (t .lines) s (x .list .0)))
-        go none e = by-groups (no-own-line owns-not (absent t hold (x .list .0) itselfKind s e))
-        go (some l) e = by-own-line other owns-not (stands t hold (x .list .0) itselfKind s l e)
 
   pub decides : Decides t s x (ruleNumber (ruleOn t s x)) (ruleGroup (ruleOn t s x)) (ruleSetOn t s x)
   unfolding decidingRule
@@ -84,18 +84,28 @@ module _ (t : Tables) (hold : T (linesHold t)) (s : ℕ) (x : ItemRow) where
         | inl is ↦ rw (eq-eqb s 0 is) (by-custodian is)
         | inr other ↦ rw (ne-eqb s 0 other) (elim (eq-or-ne s (x .owner .0)) [
           | inl owns ↦ rw (eq-eqb s (x .owner .0) owns) (by-owner other owns)
-          | inr owns-not ↦ rw (ne-eqb s (x .owner .0) owns-not) (by-other other owns-not)
+          | inr owns-not ↦ rw (ne-eqb s (x .owner .0) owns-not) (by-own other (λ owns. absurd (owns-not owns)))
         ])
       ]
 
   -- The rule that decides is the only one that fulfils this, with its group and its set.
 
+  by-own-alone : s ≢ custodian → NoOwnerLine t s x → ruleOn t s x ≡ ownRule up (t .lines) s (x .list .0)
+  unfolding decidingRule ownerRule
+  by-own-alone other no-owner-line =
+      elim (eq-or-ne s (x .owner .0)) [
+        | inl owns ↦ rw (
+          ne-eqb s 0 other,
+          eq-eqb s (x .owner .0) owns,
+          no-row t hold (x .list .0) ownerKind 0 (no-owner-line owns),
+        )
+        | inr owns-not ↦ rw (ne-eqb s 0 other, ne-eqb s (x .owner .0) owns-not)
+      ]
+
   by-groups-alone : s ≢ custodian → NoDirectLine t s x → ruleOn t s x ≡ groupRule up (t .lines) s (x .list .0)
-  unfolding decidingRule ownerRule ownRule
-  by-groups-alone other (no-owner-line owns missing) =
-      rw (ne-eqb s 0 other, eq-eqb s (x .owner .0) owns, no-row t hold (x .list .0) ownerKind 0 missing)
-  by-groups-alone other (no-own-line owns-not missing) =
-      rw (ne-eqb s 0 other, ne-eqb s (x .owner .0) owns-not, no-row t hold (x .list .0) itselfKind s missing)
+  unfolding ownRule
+  by-groups-alone other direct =
+      by-own-alone other (direct .no-owner-line) ∙ rw (no-row t hold (x .list .0) itselfKind s (direct .no-own-line))
 
   the-rule : {n h v : ℕ} → Decides t s x n h v → (rule : Rule) × ((ruleOn t s x ≡ rule) × Same rule n h v)
   unfolding decidingRule ownerRule ownRule groupRule
@@ -104,9 +114,9 @@ module _ (t : Tables) (hold : T (linesHold t)) (s : ℕ) (x : ItemRow) where
     OwnerLine (lineRow (x .list .0) ownerKind 0 v),
     (rw (ne-eqb s 0 other, eq-eqb s (x .owner .0) owns, only-row t hold (x .list .0) ownerKind 0 v at), (refl, (refl, refl))),
   )
-  the-rule (by-own-line {v} other owns-not at) = (
+  the-rule (by-own-line {v} other no-owner-line at) = (
     OwnLine (lineRow (x .list .0) itselfKind s v),
-    (rw (ne-eqb s 0 other, ne-eqb s (x .owner .0) owns-not, only-row t hold (x .list .0) itselfKind s v at), (refl, (refl, refl))),
+    (by-own-alone other no-owner-line ∙ rw (only-row t hold (x .list .0) itselfKind s v at), (refl, (refl, refl))),
   )
   the-rule (by-group-line {h} {v} other direct b at nearest) =
       let l : LineRow = lineRow (x .list .0) groupKind h v in

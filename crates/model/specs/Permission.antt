@@ -52,9 +52,9 @@ groupRule up lines s a = ruleBy GroupLine (groupLine up lines s a) NothingFound
 unfoldable pub ownRule : (ℕ → ℕ) → List LineRow → ℕ → ℕ → Rule
 ownRule up lines s a = ruleBy OwnLine (lineIn lines a itselfKind s) (groupRule up lines s a)
 
--- The owner line, even one without privileges. If there is none, the groups decide; the owner's own line does not.
+-- The owner line, even one without privileges. If there is none, the owner's own line counts as anybody's does (document 02, P4).
 unfoldable pub ownerRule : (ℕ → ℕ) → List LineRow → ℕ → ℕ → Rule
-ownerRule up lines s a = ruleBy OwnerLine (lineIn lines a ownerKind 0) (groupRule up lines s a)
+ownerRule up lines s a = ruleBy OwnerLine (lineIn lines a ownerKind 0) (ownRule up lines s a)
 
 -- The deciding rule of subject s on an item with owner o and list a. The custodian needs no line.
 unfoldable pub decidingRule : (ℕ → ℕ) → List LineRow → ℕ → ℕ → ℕ → Rule

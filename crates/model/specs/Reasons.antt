@@ -32,19 +32,23 @@ module _ (t : Tables) (s : ℕ) (x : ItemRow) where
   abbrev list : ℕ
   list = x .list .0
 
-  -- There is no line that takes precedence over group lines: no owner line for the owner, no own line for anybody else.
-  pub data NoDirectLine : Type 0 where
-    no-owner-line : s ≡ owner → Absent (t .lines) list ownerKind 0 → NoDirectLine
-    no-own-line : s ≢ owner → Absent (t .lines) list itselfKind s → NoDirectLine
+  -- no owner line decides for s: it is not the owner, or the list has none
+  abbrev pub NoOwnerLine : Type 0
+  NoOwnerLine = s ≡ owner → Absent (t .lines) list ownerKind 0
+
+  -- there is no line that takes precedence over group lines
+  pub record NoDirectLine : Type 0 where
+    pub no-owner-line : NoOwnerLine
+    pub no-own-line : Absent (t .lines) list itselfKind s
 
   -- Which rule decides, by its number, the subject whose group line it was, and the set that it gives.
-  -- 1: s is the custodian. 2: s is the owner, and the owner line gives v. 3: s is not the owner, and its own line gives v.
+  -- 1: s is the custodian. 2: s is the owner, and the owner line gives v. 3: no owner line decides, and the own line of s gives v.
   -- 4: there is no such line; s is below h, the group line for h gives v, and nobody between s and h has a group line.
   -- 5: there is no such line, and nobody above s has a group line.
   pub data Decides : ℕ → ℕ → ℕ → Type 0 where
     by-custodian : s ≡ custodian → Decides 1 0 (everything (widthIn t))
     by-owner-line : {v : ℕ} → s ≢ custodian → s ≡ owner → Stands (t .lines) (lineRow list ownerKind 0 v) → Decides 2 0 v
-    by-own-line : {v : ℕ} → s ≢ custodian → s ≢ owner → Stands (t .lines) (lineRow list itselfKind s v) → Decides 3 0 v
+    by-own-line : {v : ℕ} → s ≢ custodian → NoOwnerLine → Stands (t .lines) (lineRow list itselfKind s v) → Decides 3 0 v
     by-group-line : {h v : ℕ}
         → s ≢ custodian
         → NoDirectLine

@@ -1,5 +1,5 @@
 -- Document 01, "The sample workshop": the tables, and the twelve sets that are proved. Then the explanation of each of them
--- (document 02, P1), and how many subjects hold each position (P2).
+-- (document 02, P1), how many subjects hold each position (P2), and owners without an owner line (P4).
 use mathlib.Core.Bool.{Bool, _&&_}
 use mathlib.Core.List.{List, [], _∷_}
 use Prim.Native.Nat.{ℕ}
@@ -8,7 +8,9 @@ use lib.ListN.{replicate}
 use Rattle.model.specs.declared.Explanation.{Explanation}
 use Rattle.model.specs.WhoAndWhat.{everything}
 use Rattle.model.specs.Image.{Tables, subjectRow, grantRow, lineRow, itemRow, itselfKind, groupKind, ownerKind, everyoneKind}
+use Rattle.model.specs.Calls.{after}
 use Rattle.model.specs.Calls.Ask.{permissionSetOf}
+use Rattle.model.specs.Calls.Change.{removeLine, handOver}
 use Rattle.model.specs.Questions.{answer, ask, refusedExplanation, explain, Counting, countHolders}
 
 -- Each table has one free row.
@@ -146,3 +148,15 @@ countOutcomes =
     ∷ untouched 21 33
     ∷ untouched 12 31
     ∷ []
+
+-- The workshop after two calls by the custodian: the owner line is removed from list 1, and item 1 is handed over to 5.
+abbrev pub withoutOwnerLine : Tables
+withoutOwnerLine = after (after workshop (removeLine 0 0 1 ownerKind 0)) (handOver 0 1 5)
+
+-- Three owners, their sets and the explanations of these. 4 has an own line, 5 an own line without privileges, though the group
+-- of 1 would give it more, and 2 has none.
+abbrev pub ownerCases : List Case
+ownerCases = case 4 0 3 9 ∷ case 5 0 1 1 ∷ case 2 0 2 3 ∷ []
+
+abbrev pub ownerReasons : List Explanation
+ownerReasons = because 3 0 8 1 0 9 ∷ because 3 0 0 1 0 3 ∷ because 4 1 3 1 0 91 ∷ []

@@ -1,7 +1,7 @@
 -- The twelve sets of the sample workshop, proved against the rules: the permission set call answers each of them on the
 -- workshop's image, which is accepted. One theorem covers the whole table. Another covers the explanations of these sets, a third
--- three further explanations, two of them refused, a fourth the counts of holders on each item and four refused calls. All are
--- proved by computation.
+-- three further explanations, two of them refused, a fourth the counts of holders on each item and four refused calls. The last
+-- two are about owners without an owner line. All are proved by computation.
 use mathlib.Core.List.{map}
 use mathlib.Core.Path.{_≡_, refl}
 use lib.Dec.{T}
@@ -9,7 +9,7 @@ use Rattle.model.specs.Lists.{every}
 use Rattle.model.specs.Image.{encode}
 use Rattle.model.specs.Computing.{computing}
 use Rattle.model.specs.Sample.{workshop, twelve, right, reasons, explainedCase, furtherCases, furtherReasons}
-use Rattle.model.specs.Sample.{countedCase, countCases, countOutcomes}
+use Rattle.model.specs.Sample.{countedCase, countCases, countOutcomes, withoutOwnerLine, ownerCases, ownerReasons}
 
 pub the-twelve : T (every (right (encode workshop)) twelve)
 unfolding workshop computing
@@ -26,3 +26,11 @@ the-further-reasons = refl
 pub the-counts : map (countedCase (encode workshop)) countCases ≡ countOutcomes
 unfolding workshop computing
 the-counts = refl
+
+pub the-owners : T (every (right (encode withoutOwnerLine)) ownerCases)
+unfolding workshop computing
+the-owners = tt
+
+pub the-owners-reasons : map (explainedCase (encode withoutOwnerLine)) ownerCases ≡ ownerReasons
+unfolding workshop computing
+the-owners-reasons = refl

@@ -52,7 +52,7 @@ module _ (up : ℕ → ℕ) (lines : List LineRow) (s a : ℕ) (some-a : a ≡ 0
     unfolding ownerRule
     owner-there l case = rw (there ownerKind 0 so l case)
 
-    pub owner-missing : (r : Rule) → x ≡ Absent n → r ≡ groupRule up lines s a → r ≡ ownerRule up lines s a
+    pub owner-missing : (r : Rule) → x ≡ Absent n → r ≡ ownRule up lines s a → r ≡ ownerRule up lines s a
     unfolding ownerRule
     owner-missing r case e = rw (missing ownerKind 0 so case) e
 

@@ -4,7 +4,7 @@
 ghost use mathlib.Core.Logic.{_≢_};
 ghost use mathlib.Core.Path.{_≡_};
 ghost use Rattle.model.specs.Image.{everyoneKind, parentIn};
-ghost use Rattle.model.specs.Permission.{lineIn, lineSet, ownRule, ownerRule, ruleOn, everyoneOn, partOn};
+ghost use Rattle.model.specs.Permission.{lineIn, lineSet, ownRule, ruleOn, everyoneOn, partOn};
 ghost use Rattle.model.specs.Lent.{tablesAt};
 use crate::groups::group_rule;
 use model::CUSTODIAN;
@@ -88,32 +88,23 @@ fn everyone_set(image: &[u8], layout: Layout, list: Item) -> Privileges
     }
 }
 
-// The rule by which the lines of an item's list decide for a subject.
+// The rule by which the lines of an item's list decide for a subject. For the item's owner it is the owner line, even if that
+// holds 0. Without one, an owner is like anybody else.
 fn line_rule(image: &[u8], layout: Layout, subject: Subject, item: ItemRow) -> Rule
     requires { ⌜ subject .0 ≢ 0 ⌝ }
     requires { ⌜ item .list .0 ≢ 0 ⌝ }
     ensures { λ r. ⌜ r ≡ ruleOn (tablesAt layout (image .entry)) (subject .0) item ⌝ }
 {
     if subject.0 == item.owner.0 {
-        return owner_rule(image, layout, subject, item.list);
+        let found = search_line(image, layout, item.list, LineRow::OWNER, Subject(0));
+        if let FoundLine::At(_, line) = found {
+            return Rule::OwnerLine(line);
+        }
     }
     own_rule(image, layout, subject, item.list)
 }
 
-// The rule for an item's owner: the owner line, even if that holds 0, or else the group's line.
-fn owner_rule(image: &[u8], layout: Layout, subject: Subject, list: Item) -> Rule
-    requires { ⌜ list .0 ≢ 0 ⌝ }
-    ensures { λ r. let t = tablesAt layout (image .entry) in
-        ⌜ r ≡ ownerRule (parentIn (t .subjects)) (t .lines) (subject .0) (list .0) ⌝ }
-{
-    let found = search_line(image, layout, list, LineRow::OWNER, Subject(0));
-    match found {
-        FoundLine::At(_, line) => Rule::OwnerLine(line),
-        FoundLine::Absent(_) => group_rule(image, layout, subject, list),
-    }
-}
-
-// The rule for anybody else: the subject's own line, even if that holds 0, or else the group's line.
+// The rule where no owner line decides: the subject's own line, even if that holds 0, or else the group's line.
 fn own_rule(image: &[u8], layout: Layout, subject: Subject, list: Item) -> Rule
     requires { ⌜ list .0 ≢ 0 ⌝ }
     ensures { λ r. let t = tablesAt layout (image .entry) in

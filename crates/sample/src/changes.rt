@@ -162,20 +162,24 @@ fn ask_set_line(
 
 fn print_remove_line(caller: u32, list: u32, kind: u32, subject: u32) {
     let mut image = workshop::image();
+    ask_remove_line(&mut image, caller, list, kind, subject);
+    end_line();
+}
+
+pub fn ask_remove_line(image: &mut [u8], caller: u32, list: u32, kind: u32, subject: u32) {
     print_number(b"remove_line caller ", caller);
     print_number(b" role 0 list ", list);
     print_number(b" kind ", kind);
     print_number(b" subject ", subject);
     let answer = remove_line(
-        &mut image,
+        image,
         Subject(caller),
         Role(0),
         Item(list),
         kind,
         Subject(subject),
     );
-    print_outcome(answer, &image);
-    end_line();
+    print_outcome(answer, image);
 }
 
 fn print_create(caller: u32, list: u32, flags: u32) {
@@ -210,10 +214,14 @@ pub fn ask_bind(image: &mut [u8], caller: u32, item: u32, list: u32) -> Answer {
 
 fn print_hand_over(caller: u32, item: u32, owner: u32) {
     let mut image = workshop::image();
+    ask_hand_over(&mut image, caller, item, owner);
+    end_line();
+}
+
+pub fn ask_hand_over(image: &mut [u8], caller: u32, item: u32, owner: u32) {
     print_number(b"hand_over caller ", caller);
     print_number(b" item ", item);
     print_number(b" owner ", owner);
-    let answer = hand_over(&mut image, Subject(caller), Item(item), Subject(owner));
-    print_outcome(answer, &image);
-    end_line();
+    let answer = hand_over(image, Subject(caller), Item(item), Subject(owner));
+    print_outcome(answer, image);
 }

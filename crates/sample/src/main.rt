@@ -2,6 +2,7 @@
 // has what was asked and what came back: the number and the result. After a call that may write, the line also has the
 // number that `check` answers for the image afterwards.
 mod changes;
+mod owners;
 mod printing;
 mod questions;
 mod strangers;
@@ -12,5 +13,6 @@ fn main() {
     questions::print_questions(&image);
     questions::print_checks();
     changes::print_changes();
+    owners::print_owners();
     strangers::print_strangers();
 }

@@ -74,7 +74,7 @@ fn print_check(name: &[u8], image: &[u8]) {
     end_line();
 }
 
-fn print_case(image: &[u8], subject: u32, role: u32, item: u32) {
+pub fn print_case(image: &[u8], subject: u32, role: u32, item: u32) {
     print_permission(image, subject, role, item);
     print_explanation(image, subject, role, item);
 }

@@ -37,6 +37,7 @@ pub fn cases() -> Vec<Case> {
         mixed_case(),
         chain_case(),
         lines_case(),
+        owners_case(),
         longest_report_case(),
     ]
 }
@@ -160,6 +161,29 @@ fn searches(tables: &Tables) -> [Operation; 4] {
     ]
 }
 
+/// No list has an owner line. The first item's owner has an own line, the other's has not.
+fn owners_case() -> Case {
+    let tables = images::without_owner_lines();
+    let (owner, item) = owner_and_item(&tables, true);
+    let (unnamed, its_item) = owner_and_item(&tables, false);
+    Case {
+        image_name: "owners",
+        image: tables.image(),
+        operations: vec![
+            call("permission set, the own line", set_of(owner, NO_ROLE, item)),
+            call(
+                "permission set, the groups",
+                set_of(unnamed, NO_ROLE, its_item),
+            ),
+            call(
+                "explain, the own line",
+                explanation_of(owner, NO_ROLE, item),
+            ),
+            call("count holders", holders_on(item)),
+        ],
+    }
+}
+
 /// Only for its report.
 fn longest_report_case() -> Case {
     Case {
@@ -259,6 +283,17 @@ fn item_under(tables: &Tables, list: u32) -> u32 {
         .find(|(_, [_, governing, flags])| *governing == list && *flags == 0)
         .map(|(number, _)| number)
         .expect("every list governs an item")
+}
+
+/// The owner and the number of the first item whose list has a line for its owner itself, or has none.
+/// The custodian needs no line.
+fn owner_and_item(tables: &Tables, is_named: bool) -> (u32, u32) {
+    let owned = (1..).zip(&tables.items.rows);
+    let mut owned = owned.filter(|(_, [owner, ..])| *owner != CUSTODIAN);
+    owned
+        .find(|(_, [owner, list, _])| has_own_line(tables, *list, *owner) == is_named)
+        .map(|(number, [owner, ..])| (*owner, number))
+        .expect("some owners are named on the list, others are not")
 }
 
 /// The receiver and the role of the first grant for which lines of the grantor are looked up too: its

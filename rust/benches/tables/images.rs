@@ -99,6 +99,13 @@ pub fn lines() -> Tables {
     }
 }
 
+/// The same without the lines for owners, so that an owner has what its own line or its groups give.
+pub fn without_owner_lines() -> Tables {
+    let mut tables = lines();
+    tables.lines.rows.retain(|[_, kind, ..]| *kind != OWNER);
+    tables
+}
+
 /// As many pairs of a subject and an item as fit, which gives the longest report: 7,447,441 lines
 /// after the heading. There are no lists and the tree is flat, so the time goes into the printing.
 pub fn longest_report() -> Tables {

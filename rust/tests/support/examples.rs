@@ -7,9 +7,11 @@ use super::sample::EVERYONE;
 use super::tables::Tables;
 use std::collections::BTreeSet;
 
-/// An explanation, and what the list's line for everyone gives, 0 without one.
+/// An explanation, whether the asker owns the item, and what the list's line for everyone gives, 0
+/// without one.
 struct Example<'a> {
     explanation: &'a Explanation,
+    owns: bool,
     everyone: u32,
 }
 
@@ -18,7 +20,7 @@ type Sort = (&'static str, fn(&Example) -> bool);
 
 /// What there must be an example of.
 #[rustfmt::skip]
-const SORTS: [Sort; 13] = [
+const SORTS: [Sort; 16] = [
     ("the custodian", |it| it.rule() == CUSTODIAN),
     ("the custodian, whom everyone's line does not concern", |it| it.rule() == CUSTODIAN && it.everyone != 0),
     ("the custodian under a role", |it| it.rule() == CUSTODIAN && it.explanation.role_set != 0),
@@ -26,6 +28,9 @@ const SORTS: [Sort; 13] = [
     ("an owner line that gives nothing", |it| it.rule() == OWNER_LINE && !it.gives()),
     ("an own line", |it| it.rule() == OWN_LINE && it.gives()),
     ("an own line that gives nothing", |it| it.rule() == OWN_LINE && !it.gives()),
+    ("an owner's own line", |it| it.rule() == OWN_LINE && it.owns && it.gives()),
+    ("an owner's own line that gives nothing", |it| it.rule() == OWN_LINE && it.owns && !it.gives()),
+    ("an owner's group line", |it| it.rule() == GROUP_LINE && it.owns),
     ("the custodian's group line", |it| it.rule() == GROUP_LINE && it.explanation.group == 0),
     ("another's group line", |it| it.rule() == GROUP_LINE && it.explanation.group != 0),
     ("a group line that gives nothing", |it| it.rule() == GROUP_LINE && !it.gives()),
@@ -55,10 +60,10 @@ impl Examples {
             return;
         }
         let list = tables.list_of(question.item);
-        let everyone = tables.line(list, EVERYONE, 0).unwrap_or(0);
         let example = Example {
             explanation,
-            everyone,
+            owns: tables.owner_of(question.item) == question.subject,
+            everyone: tables.line(list, EVERYONE, 0).unwrap_or(0),
         };
         let sorts = SORTS.iter().filter(|(_, holds)| holds(&example));
         self.0.extend(sorts.map(|(sort, _)| sort));

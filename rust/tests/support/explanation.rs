@@ -95,7 +95,9 @@ impl Question {
         assert_eq!(self.ask_in_c(image), *explanation, "{case}, otherwise in C");
         if explanation.number == 0 {
             self.assert_put_together(image, explanation, &case);
-            self.assert_lines_are_there(&Tables::read(image), explanation, &case);
+            let tables = &Tables::read(image);
+            self.assert_lines_are_there(tables, explanation, &case);
+            self.assert_first_decided(tables, explanation.rule, &case);
         }
     }
 
@@ -147,6 +149,20 @@ impl Question {
         assert!(rule == GROUP_LINE || group == 0, "{case}: group {group}");
         if everyone_set != 0 {
             self.assert_line(tables, EVERYONE, 0, everyone_set, case);
+        }
+    }
+
+    /// The owner line decided for an owner only, and the lines that count before the one that decided
+    /// are not among the rows.
+    fn assert_first_decided(self, tables: &Tables, rule: u32, case: &str) {
+        let owns = tables.owner_of(self.item) == self.subject;
+        let list = tables.list_of(self.item);
+        assert!(owns || rule != OWNER_LINE, "{case}");
+        if owns && rule > OWNER_LINE {
+            assert_eq!(tables.line(list, OWNER, 0), None, "{case}");
+        }
+        if rule > OWN_LINE {
+            assert_eq!(tables.line(list, ITSELF, self.subject), None, "{case}");
         }
     }
 

@@ -81,6 +81,12 @@ impl Tables {
             .collect()
     }
 
+    /// The owner of an item in use.
+    pub fn owner_of(&self, item: u32) -> u32 {
+        let [owner, _, _] = self.items.rows[item as usize - 1];
+        owner
+    }
+
     /// The list of an item in use.
     pub fn list_of(&self, item: u32) -> u32 {
         let [_, list, _] = self.items.rows[item as usize - 1];

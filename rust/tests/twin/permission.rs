@@ -41,20 +41,22 @@ impl Rule {
 }
 
 /// The first line found decides, even one without privileges: `None` and `Some(0)`
-/// differ. For the item's owner the owner line counts, and a line for the subject
-/// itself does not. If that first line is missing, the groups above the subject are
-/// searched.
+/// differ. For the item's owner the owner line is looked for first. Then, for an
+/// owner and for anybody else, the line for the subject itself. Then the groups above
+/// the subject are searched.
 fn deciding_rule(image: &Image, subject: u32, item: Item) -> Rule {
     if subject == CUSTODIAN {
         return Rule::CUSTODIAN;
     }
-    let line = if subject == item.owner {
-        image.line(item.list, OWNER, 0).map(Rule::owner_line)
-    } else {
-        image.line(item.list, ITSELF, subject).map(Rule::own_line)
-    };
-    line.or_else(|| group_line(image, item.list, subject))
-        .unwrap_or(Rule::NOTHING_FOUND)
+    if subject == item.owner {
+        if let Some(privileges) = image.line(item.list, OWNER, 0) {
+            return Rule::owner_line(privileges);
+        }
+    }
+    if let Some(privileges) = image.line(item.list, ITSELF, subject) {
+        return Rule::own_line(privileges);
+    }
+    group_line(image, item.list, subject).unwrap_or(Rule::NOTHING_FOUND)
 }
 
 /// The group line of the nearest subject above that has one. The custodian's

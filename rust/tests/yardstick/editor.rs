@@ -47,11 +47,13 @@ impl Search<'_> {
         (given && self.is_able(self.owner)).then_some(self.owner)
     }
 
-    /// The owner's own line does not count.
+    /// The owner's own line does not count beside an owner line.
     fn by_own_line(&self) -> Option<u32> {
+        let passed_over = self.list.owner.map(|_| self.owner);
         let mut lines = self.list.own().iter().map(Line::of);
         let named = lines.find(|line| {
-            gives(line.privileges) && line.subject != self.owner && self.is_able(line.subject)
+            let subject = line.subject;
+            gives(line.privileges) && passed_over != Some(subject) && self.is_able(subject)
         });
         named.map(|line| line.subject)
     }

@@ -28,11 +28,12 @@ pub fn count(tables: &Tables, item: Item, counts: &mut [u32; POSITIONS]) {
 /// it has all without lines.
 fn given_by_lines(tree: Tree, list: &List, owner: u32) -> Vec<u32> {
     let mut given = given_by_groups(tree, list.groups());
-    let to_owner = list.owner.unwrap_or(given[owner as usize]);
     for line in list.own().iter().map(Line::of) {
         given[line.subject as usize] = line.privileges;
     }
-    given[owner as usize] = to_owner;
+    if let Some(privileges) = list.owner {
+        given[owner as usize] = privileges;
+    }
     given
 }
 

@@ -114,13 +114,14 @@ impl<'a> List<'a> {
         by_group.unwrap_or(Decision::by(Rule::NothingFound, 0))
     }
 
-    /// By the line that counts before those of the groups: the owner line for the owner, and for others
-    /// their own line.
+    /// By the line that counts before those of the groups: for the owner the owner line; for others, and
+    /// for an owner without an owner line, the own line.
     #[inline]
     pub fn by_direct_line(&self, subject: u32, owner: u32) -> Option<Decision> {
         if subject == owner {
-            let privileges = self.owner?;
-            return Some(Decision::by(Rule::OwnerLine, privileges));
+            if let Some(privileges) = self.owner {
+                return Some(Decision::by(Rule::OwnerLine, privileges));
+            }
         }
         let key = line_key(self.number, ITSELF, subject);
         let found = self

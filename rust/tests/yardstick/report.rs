@@ -29,8 +29,10 @@ fn report_sets(tables: Tables, out: &mut impl Write) -> Result<()> {
             let owned;
             let mut set = &columns.texts[item.column];
             if item.owner == subject {
-                owned = Text::new(sets.owned(subject, item.column), b'\n');
-                set = &owned;
+                if let Some(by_owner_line) = sets.by_owner_line(subject, item.column) {
+                    owned = Text::new(by_owner_line, b'\n');
+                    set = &owned;
+                }
             }
             lines.put([&number, &item.number, set])?;
         }

@@ -50,7 +50,7 @@ impl<'a> Sets<'a> {
         self.lists.len()
     }
 
-    /// Writes the subject's set of each column, on items that it does not own.
+    /// Writes the subject's set of each column, on items where no owner line decides.
     pub fn write(&self, subject: u32, sets: &mut [u32]) {
         if subject == CUSTODIAN {
             return sets.fill(ALL);
@@ -65,15 +65,15 @@ impl<'a> Sets<'a> {
         }
     }
 
-    /// The subject's set on an item of this column that it owns.
-    pub fn owned(&self, subject: u32, column: usize) -> u32 {
+    /// The subject's set on an item of this column that it owns, if the owner line decides. It does not
+    /// for the custodian, who needs no line.
+    pub fn by_owner_line(&self, subject: u32, column: usize) -> Option<u32> {
         if subject == CUSTODIAN {
-            return ALL;
+            return None;
         }
         let list = &self.lists[column];
-        let by_groups = self.groups.given_to(subject)[column];
-        let part = list.owner.unwrap_or(by_groups) | list.everyone.unwrap_or(0);
-        part & self.tables.subject(subject).privileges
+        let part = list.owner? | list.everyone.unwrap_or(0);
+        Some(part & self.tables.subject(subject).privileges)
     }
 }
 
