@@ -30,9 +30,9 @@ extern "C" {
 
 /* The version of this header. */
 #define DACM_VERSION_MAJOR 0
-#define DACM_VERSION_MINOR 4
+#define DACM_VERSION_MINOR 5
 #define DACM_VERSION_PATCH 0
-#define DACM_VERSION "0.4.0"
+#define DACM_VERSION "0.5.0"
 
 /* The stack that a call may need. */
 #define DACM_STACK_BYTES 524288
@@ -140,10 +140,7 @@ dacm_answer dacm_list_count(const uint8_t *image, size_t length, dacm_item list)
 /* The offset of the first line of a list; 0 where the call is refused or the list has no lines. */
 size_t dacm_list_start(const uint8_t *image, size_t length, dacm_item list);
 
-/*
- * Result: a subject other than the custodian that may edit a list without claiming a role. Where several subjects may,
- * it is undecided which of them the result names.
- */
+/* Result: the lowest subject other than the custodian that may edit a list without claiming a role. */
 dacm_answer dacm_find_editor(const uint8_t *image, size_t length, dacm_item list);
 
 /* The calls that change the tables. */

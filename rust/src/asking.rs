@@ -135,9 +135,32 @@ pub fn lines_of(image: &[u8], list: Item) -> Result<&[u8], Refusal> {
     Ok(&image[start..start + bytes])
 }
 
-/// A subject other than the custodian that may edit a list without claiming a role.
+/// The lowest subject other than the custodian that may edit a list without claiming a role: whom to
+/// write to about the list. [`Refusal::NoEditor`] where there is none.
 ///
-/// Where several subjects may, it is undecided which of them is named: rely on none of them.
+/// ```
+/// use dacm::{Capacities, Flags, Item, Kind, Privileges, Refusal, Role, Subject};
+///
+/// # fn main() -> Result<(), Refusal> {
+/// # let (custodian, no_role) = (Subject::CUSTODIAN, Role::NONE);
+/// # let capacities = Capacities { subjects: 3, grants: 0, lines: 2, items: 1 };
+/// # let mut image = capacities.empty_image()?;
+/// let edit = Privileges::EDIT_LIST;
+/// let engineer = dacm::define_subject(&mut image, custodian, no_role, custodian, edit)?;
+/// let deputy = dacm::define_subject(&mut image, custodian, no_role, custodian, edit)?;
+/// let list = dacm::create_item(&mut image, custodian, no_role, Item::NONE, Flags::IS_LIST)?;
+/// dacm::bind(&mut image, custodian, list, list)?;
+/// assert_eq!(dacm::find_editor(&image, list), Err(Refusal::NoEditor));
+///
+/// dacm::set_line(&mut image, custodian, no_role, list, Kind::ITSELF, deputy, edit)?;
+/// assert_eq!(dacm::find_editor(&image, list)?, deputy);
+///
+/// // The engineer was defined first, so its number is lower.
+/// dacm::set_line(&mut image, custodian, no_role, list, Kind::ITSELF, engineer, edit)?;
+/// assert_eq!(dacm::find_editor(&image, list)?, engineer);
+/// # Ok(())
+/// # }
+/// ```
 pub fn find_editor(image: &[u8], list: Item) -> Result<Subject, Refusal> {
     ffi::find_editor(image, list).result().map(Subject)
 }

@@ -2,13 +2,13 @@
 //! beside them.
 //!
 //! Compared are the number, the result, the slice that `lines_of` shows, every field of an
-//! explanation, every count, and every byte of the image afterwards. Of the editor search's result,
-//! the twin only checks that the subject may be named.
+//! explanation, every count, and every byte of the image afterwards.
 //!
 //! The test of accepted images demands at its end that each call was accepted, and refused with each
 //! of its own questions. The test of damaged images demands that each call was refused with each of
-//! the questions 1 to 7. The test of explanations demands that there was one of each sort, and the
-//! test of counts that at each position one, several and all subjects were counted.
+//! the questions 1 to 7. The test of explanations demands that there was one of each sort, the test of
+//! counts that at each position one, several and all subjects were counted, and the test of editors
+//! that by each rule the only one and the lowest of several was named.
 
 mod support;
 mod twin;
@@ -21,8 +21,9 @@ use support::choose::{Chooser, ENTRIES, ROLES};
 use support::compare::compare;
 use support::coverage::Coverage;
 use support::damage::{damage, telling_values};
+use support::editors::{expected, Ending};
 use support::examples::Examples;
-use support::explanation::Question;
+use support::explanation::{Question, GROUP_LINE, NOTHING_FOUND, OWNER_LINE, OWN_LINE};
 use support::holders::counts_of_sets;
 use support::libraries::Size;
 use support::random::Random;
@@ -174,6 +175,45 @@ fn refusal_of_counts(tables: &Tables, item: u32, entries: usize) -> u32 {
     } else {
         0
     }
+}
+
+/// Everything that the editor search can be asked about small libraries: each list, and numbers that
+/// are no list.
+#[test]
+fn editors() {
+    let endings = &mut BTreeSet::new();
+    for seed in 0..rounds(2_000) {
+        let random = &mut Random::new(seed);
+        let tables = Size::small(random).library(random);
+        let image = &mut tables.image();
+        let seed = format!("a small library, seed {seed}");
+        for list in 0..=tables.items.used() as u32 + 1 {
+            let outcome = compare(image, &Call::FindEditor { list }, &seed);
+            let (number, result, ending) = expected(&tables, image, list);
+            assert_eq!(
+                (outcome.number, outcome.result),
+                (number, result),
+                "{seed}, list {list}"
+            );
+            endings.insert(ending);
+        }
+    }
+    assert_eq!(endings, &every_ending());
+}
+
+fn every_ending() -> BTreeSet<Ending> {
+    let mut endings = BTreeSet::from([Ending::NoList]);
+    for under_role in [false, true] {
+        endings.insert(Ending::Nobody { under_role });
+        for rule in [OWNER_LINE, OWN_LINE, GROUP_LINE, NOTHING_FOUND] {
+            endings.extend([false, true].map(|several| Ending::Named {
+                rule,
+                several,
+                under_role,
+            }));
+        }
+    }
+    endings
 }
 
 /// Every field of the sample and of some random images, replaced in turn by every value that is

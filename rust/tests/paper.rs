@@ -167,6 +167,58 @@ fn an_owner_who_may_edit_by_the_own_line() {
     assert_eq!(answer(image, Call::FindEditor { list: 1 }), refused(20));
 }
 
+fn editor_of(tables: &Tables, list: u32) -> (u32, u32) {
+    answer(&mut tables.image(), Call::FindEditor { list })
+}
+
+/// 1, 2 and 3 have the privilege to edit lists in their own rows, and no line of the sample gives it.
+#[test]
+fn no_editor() {
+    assert_eq!(editor_of(&sample(), 1), refused(20));
+    for list in [0, 2, 5, u32::MAX] {
+        assert_eq!(editor_of(&sample(), list), refused(13));
+    }
+}
+
+/// 3 by its own line, 2 by its group, then 1 by the owner line.
+#[test]
+fn the_lowest_editor() {
+    let mut tables = sample();
+    tables.lines.rows.insert(0, [1, ITSELF, 3, 64]);
+    assert_eq!(editor_of(&tables, 1), accepted(3));
+    tables.lines.rows[3] = [1, GROUP, 1, 64];
+    assert_eq!(editor_of(&tables, 1), accepted(2));
+    tables.lines.rows[4] = [1, OWNER, 0, 64];
+    assert_eq!(editor_of(&tables, 1), accepted(1));
+}
+
+/// The line for everyone reaches all, but 1 has no right in its own row any more.
+#[test]
+fn the_lowest_editor_by_the_line_for_everyone() {
+    let mut tables = sample();
+    tables.lines.rows[4] = [1, EVERYONE, 0, 64];
+    assert_eq!(editor_of(&tables, 1), accepted(1));
+    tables.subjects.rows[1] = [0, 63, 0];
+    tables.subjects.rows[2] = [1, 91, 0];
+    assert_eq!(editor_of(&tables, 1), accepted(2));
+}
+
+/// 4 owns the list, so 3 can lend 1 what its own line gives it there. Only under that role may 1 edit,
+/// and 1 is not named.
+#[test]
+fn an_editor_only_under_a_role() {
+    let mut tables = sample();
+    tables.items.rows[0] = [4, 1, 1];
+    tables.lines.rows.insert(0, [1, ITSELF, 3, 64]);
+    tables.grants.rows.insert(0, [1, 8, 3, 3, 64]);
+    let image = &mut tables.image();
+    assert_eq!(permission_set(image, 1, 8, 1), accepted(65));
+    assert_eq!(permission_set(image, 1, 0, 1), accepted(1));
+    assert_eq!(editor_of(&tables, 1), accepted(3));
+    tables.lines.rows[0] = [1, ITSELF, 3, 0];
+    assert_eq!(editor_of(&tables, 1), refused(20));
+}
+
 /// Even if its line holds 0. The custodian's group is the highest.
 #[test]
 fn the_lowest_group_decides() {

@@ -2,54 +2,56 @@
 use mathlib.Core.Bool.{Bool, true, false, not, _&&_}
 use mathlib.Core.List.{List}
 use mathlib.Core.Logic.{inl, inr}
+use mathlib.Core.Option.{Option, none, some, Option·getD}
 use mathlib.Core.Path.{_≡_, refl, sym, ap, _∙_}
 use Prim.Native.Nat.{ℕ, _+_, _<_, _≤_}
 use native.Mathlib.Omega.{arith}
-use borrow.Author.Tests.{lt-ltb, le-ltb, ne-eqb, eq-eqb, not-true, not-false}
+use borrow.Author.Tests.{ne-eqb, eq-eqb, not-true, not-false}
 use lib.ListN.{length}
 use Rattle.model.specs.declared.ItemRow.{ItemRow}
 use Rattle.model.specs.declared.Layout.{Layout}
+use Rattle.model.specs.Lists.{isThere, lowestPassing}
 use Rattle.model.specs.WhoAndWhat.{editList, has}
-use Rattle.model.specs.Image.{Tables, widthOf, subjectFormat, tablesBy, subjectUsed, privilegesIn, itemIn}
+use Rattle.model.specs.Image.{Tables, widthOf, subjectFormat, tablesBy, privilegesIn, itemIn}
 use Rattle.model.specs.Permission.{partOn, permissionSet}
-use Rattle.model.specs.Calls.{isEditor}
-use Rattle.laws.specs.Tests.{two, le-or-lt, lt-eq-gt}
+use Rattle.model.specs.Calls.{isEditor, lowestEditor}
+use Rattle.laws.specs.Tests.{lt-eq-gt}
+use Rattle.laws.specs.Counts.{Least, none-lowest, lowest-some, some-lowest}
 use Rattle.laws.specs.Sets.{has-and}
 use Rattle.laws.specs.Rows.{rows-count}
 use Rattle.permission.specs.Sets.{set-shared}
-use Rattle.asking.specs.Found.{Editor}
 
 module _ (t : Tables) (a : ℕ) where
   -- no subject below n is an editor
   pub record Tried (n : ℕ) : Type 0 where
     pub after-custodian : 1 ≤ n
-    pub passed : (s : ℕ) → s < n → isEditor t s a ≡ false
+    pub passed : (s : ℕ) → s < n → isEditor t a s ≡ false
 
   pub tried-none : Tried 1
   tried-none = record { after-custodian = omega arith; passed = λ s h. custodian-not s (omega arith) }
     where
-      custodian-not : (s : ℕ) → s ≡ 0 → isEditor t s a ≡ false
-      custodian-not s z = rw (eq-eqb s 0 z) (elim (two (subjectUsed (t .subjects) s)) [ inl e ↦ rw e | inr e ↦ rw e ])
-
-  pub not-used : (s : ℕ) → length (t .subjects) ≤ s → isEditor t s a ≡ false
-  not-used s h = rw (le-ltb s (length (t .subjects)) h)
+      custodian-not : (s : ℕ) → s ≡ 0 → isEditor t a s ≡ false
+      custodian-not s z = rw (eq-eqb s 0 z)
 
   -- u rows are in use
   module _ (u : ℕ) (used : u ≡ length (t .subjects)) (n : ℕ) (tried : Tried n) where
     module _ (h : n < u) (b : Bool) (asked : b ≡ has editList (permissionSet t n 0 a)) where
-      looked : isEditor t n a ≡ b
+      looked : isEditor t a n ≡ b
       looked =
-          let there : n < length (t .subjects) = omega arith in
           let other : n ≡ 0 → ⊥ = λ z. omega (arith, tried .after-custodian) in
-          rw (lt-ltb n (length (t .subjects)) there, ne-eqb n 0 other) (sym asked)
+          rw (ne-eqb n 0 other) (sym asked)
 
-      pub tried-here : b ≡ true → Editor t a n
-      tried-here e = record { nobody = λ z. absurd (omega (arith, tried .after-custodian)); somebody = λ d. looked ∙ e }
+      pub tried-here : b ≡ true → n ≡ Option·getD (lowestEditor t a) 0
+      unfolding lowestEditor
+      tried-here e =
+          let least : Least (isEditor t a) (length (t .subjects)) n =
+          record { below = omega arith; passes = looked ∙ e; no-lower = tried .passed } in
+          rw (some-lowest (isEditor t a) (length (t .subjects)) n least)
 
       pub tried-next : b ≡ false → Tried (n + 1)
       tried-next e = record { after-custodian = omega arith; passed = further }
         where
-          further : (s : ℕ) → s < n + 1 → isEditor t s a ≡ false
+          further : (s : ℕ) → s < n + 1 → isEditor t a s ≡ false
           further s l =
               elim (lt-eq-gt s n) [
                 | inl low ↦ tried .passed s low
@@ -57,11 +59,28 @@ module _ (t : Tables) (a : ℕ) where
                 | inr (inr high) ↦ absurd (omega arith)
               ]
 
-    pub tried-all : u ≤ n → Editor t a 0
-    tried-all h = record { nobody = λ z. all; somebody = λ d. absurd (d refl) }
+    pub tried-all : u ≤ n → 0 ≡ Option·getD (lowestEditor t a) 0
+    unfolding lowestEditor
+    tried-all h = rw (none-lowest (isEditor t a) (length (t .subjects)) (λ s l. tried .passed s (omega arith)))
+
+  -- 0 stands for nobody: the custodian is never an editor
+  module _ (e : ℕ) (found : e ≡ Option·getD (lowestEditor t a) 0) where
+    pub editor-none : e ≡ 0 → isThere (lowestEditor t a) ≡ false
+    unfolding lowestEditor
+    editor-none z = go (lowestEditor t a) refl (sym found ∙ z)
       where
-        all : (s : ℕ) → isEditor t s a ≡ false
-        all s = elim (le-or-lt n s) [ inl past ↦ not-used s (omega arith) | inr low ↦ tried .passed s low ]
+        go : (o : Option ℕ) → lowestEditor t a ≡ o → Option·getD o 0 ≡ 0 → isThere o ≡ false
+        go none is f = refl
+        go (some s) is f =
+            let passes : isEditor t a s ≡ true = lowest-some (isEditor t a) (length (t .subjects)) s is .passes in
+            sym (rw (eq-eqb s 0 f) at passes)
+
+    pub editor-there : (e ≡ 0 → ⊥) → isThere (lowestEditor t a) ≡ true
+    editor-there d = go (lowestEditor t a) (λ z. d (found ∙ z))
+      where
+        go : (o : Option ℕ) → (Option·getD o 0 ≡ 0 → ⊥) → isThere o ≡ true
+        go none f = absurd (f refl)
+        go (some s) f = refl
 
 -- the subjects' table has as many rows as the layout says are in use
 pub subjects-used : (lay : Layout) (img : List ℕ) → lay .subjects .used ≡ length (tablesBy lay img .subjects)

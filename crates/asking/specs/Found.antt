@@ -1,12 +1,11 @@
--- What the contracts of `asking` cite beside the definitions of `model`: counts to which a set is added, the rows of a list among
--- the lines, and what the search for an editor found.
-use mathlib.Core.Bool.{true, false}
+-- What the contracts of `asking` cite beside the definitions of `model`: counts to which a set is added, and the rows of a list
+-- among the lines.
 use mathlib.Core.List.{List, [], _∷_}
 use mathlib.Core.Path.{_≡_}
 use Prim.Native.Nat.{ℕ, _+_, _-_, _*_, _/_, _%_, _≤_}
 use lib.ListN.{length}
-use Rattle.model.specs.Image.{Tables, layoutOf, tables, size, lineFormat, widthOf}
-use Rattle.model.specs.Calls.{rowsOf, rowsBefore, isEditor}
+use Rattle.model.specs.Image.{layoutOf, tables, size, lineFormat, widthOf}
+use Rattle.model.specs.Calls.{rowsOf, rowsBefore}
 use Rattle.model.specs.Calls.Ask.{listCount}
 use Rattle.model.specs.Questions.{answer, ask}
 use Rattle.asking.specs.declared.list_rows.ListRows.{ListRows}
@@ -44,8 +43,3 @@ pub record Shown (img : List ℕ) (a number first end : ℕ) : Type 0 where
 abbrev pub ShownBy : List ℕ → ℕ → ListRows → Type 0
 ShownBy img a (Rows lay first end) = Shown img a 0 first end × (lay ≡ layoutOf img)
 ShownBy img a (Refused n) = Shown img a n 0 0 × (n ≡ 0 → ⊥)
-
--- r is an editor of list a, or 0 where there is none
-pub record Editor (t : Tables) (a r : ℕ) : Type 0 where
-  pub nobody : r ≡ 0 → (s : ℕ) → isEditor t s a ≡ false
-  pub somebody : (r ≡ 0 → ⊥) → isEditor t r a ≡ true

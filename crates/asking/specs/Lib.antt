@@ -4,4 +4,3 @@ pub mod Counting
 pub mod Runs
 pub mod Shown
 pub mod Editors
-pub mod EditorAnswers

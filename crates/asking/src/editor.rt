@@ -1,10 +1,12 @@
-// The call that finds a subject that may edit a list.
+// The call that finds the lowest subject that may edit a list.
+ghost use mathlib.Core.Option.{Option·getD};
 ghost use mathlib.Core.Path.{_≡_};
 ghost use Rattle.model.specs.WhoAndWhat.{editList, has};
 ghost use Rattle.model.specs.Image.{itemIn};
 ghost use Rattle.model.specs.Permission.{permissionSet};
-ghost use Rattle.model.specs.Questions.{EditorAnswer};
-ghost use Rattle.asking.specs.Found.{Editor};
+ghost use Rattle.model.specs.Calls.{lowestEditor};
+ghost use Rattle.model.specs.Calls.Ask.{findEditor};
+ghost use Rattle.model.specs.Questions.{ask};
 ghost use Rattle.model.specs.Lent.{tablesAt};
 use acceptance::open;
 use model::Answer;
@@ -22,10 +24,10 @@ use rows::read::item_at;
 use tables::items::is_list;
 use tables::subjects::privileges_of;
 
-// Finds a subject, other than the custodian, that may edit the list without claiming a role. Its number is the result.
-// Which of several is undecided. Where there is none, the call is refused with 20.
+// Finds the lowest subject, other than the custodian, that may edit the list without claiming a role. Its number is the
+// result. Where there is none, the call is refused with 20.
 pub fn find_editor(image: &[u8], list: Item) -> Answer
-    ensures { λ r. ⌜ EditorAnswer (now (image .entry)) (list .0) r ⌝ }
+    ensures { λ r. ⌜ r ≡ ask (now (image .entry)) (findEditor (list .0)) ⌝ }
 {
     let opened = open(image);
     let layout = match opened {
@@ -37,18 +39,17 @@ pub fn find_editor(image: &[u8], list: Item) -> Answer
     if !is_list(image, layout, list) {
         return Answer::refused(refusal::NOT_A_LIST);
     }
-    let editor = some_editor(image, layout, list);
+    let editor = lowest_editor(image, layout, list);
     if editor == 0 {
         return Answer::refused(refusal::NO_EDITOR);
     }
     Answer::done(editor)
 }
 
-// The number of a subject, other than the custodian, that may edit the list; or 0, the custodian's number, where there is
-// none. The list's row is read once. The loop goes up from 1 and stops at the first, but the contract promises no order: which
-// of several is undecided.
-fn some_editor(image: &[u8], layout: Layout, list: Item) -> u32
-    ensures { λ r. ⌜ Editor (tablesAt layout (image .entry)) (list .0) r ⌝ }
+// The number of the lowest subject, other than the custodian, that may edit the list; or 0, the custodian's number, where
+// there is none. The list's row is read once. The loop goes up from 1 and stops at the first.
+fn lowest_editor(image: &[u8], layout: Layout, list: Item) -> u32
+    ensures { λ r. ⌜ r ≡ Option·getD (lowestEditor (tablesAt layout (image .entry)) (list .0)) 0 ⌝ }
 {
     let row = item_at(image, layout, list);
     let table = layout.subjects;

@@ -2,9 +2,9 @@
 // arguments to the call of the same meaning and has that call's contract. An `Answer` is number 0 and the call's result, or
 // the refusal and result 0.
 ghost use mathlib.Core.Path.{_≡_};
-ghost use Rattle.model.specs.Calls.Ask.{checkImage, operationSetOf, permissionSetOf, listCount};
+ghost use Rattle.model.specs.Calls.Ask.{checkImage, operationSetOf, permissionSetOf, listCount, findEditor};
 ghost use Rattle.model.specs.Calls.Change.{defineSubject, setGrant, removeGrant, setLine, removeLine, createItem, bind, handOver};
-ghost use Rattle.model.specs.Questions.{ask, explain, countHolders, act, listStart, EditorAnswer};
+ghost use Rattle.model.specs.Questions.{ask, explain, countHolders, act, listStart};
 use model::Answer;
 use model::Explanation;
 use model::Item;
@@ -83,11 +83,11 @@ pub extern "C" fn dacm_list_start(image: &[u8], list: Item) -> usize
     asking::lines::list_start(image, list)
 }
 
-// Finds a subject, other than the custodian, that may edit the list without claiming a role. Its number is the result.
-// Which of several is undecided. Where there is none, the call is refused with 20.
+// Finds the lowest subject, other than the custodian, that may edit the list without claiming a role. Its number is the
+// result. Where there is none, the call is refused with 20.
 #[no_mangle]
 pub extern "C" fn dacm_find_editor(image: &[u8], list: Item) -> Answer
-    ensures { λ r. ⌜ EditorAnswer (now (image .entry)) (list .0) r ⌝ }
+    ensures { λ r. ⌜ r ≡ ask (now (image .entry)) (findEditor (list .0)) ⌝ }
 {
     asking::editor::find_editor(image, list)
 }

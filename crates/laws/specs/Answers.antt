@@ -3,9 +3,11 @@ use mathlib.Core.Bool.{Bool, true, false, _&&_, not, cond}
 use mathlib.Core.List.{List, [], _∷_, _++_}
 use mathlib.Core.Logic.{inl, inr}
 use mathlib.Core.Path.{_≡_, refl, sym, _∙_}
-use Prim.Native.Nat.{ℕ}
-use borrow.Author.Tests.{not-true, eq-eqb, ne-eqb}
-use lib.Dec.{T, eqb, T-not}
+use Prim.Native.Nat.{ℕ, _≤_}
+use native.Mathlib.Omega.{arith}
+use borrow.Author.Tests.{leb-true, not-true, eq-eqb, ne-eqb}
+use lib.Dec.{T, eqb, leb, T-not}
+use Rattle.model.specs.Lists.{every}
 use Rattle.model.specs.Questions.{Question, _asks_, firstNo, imageQuestions, check}
 use Rattle.laws.specs.Tests.{and-l, and-r, true-T, T-true, two, eq-or-ne, said-no, said-yes}
 use Rattle.laws.specs.WellFormed.{Passed}
@@ -28,6 +30,15 @@ passed-first (q ∷ qs) n e = go (passed-first qs (and-r (not (eqb (q .number) 0
     go : (firstNo qs ≡ 0 → Passed qs) → (b : Bool) → q .answer ≡ b → cond b (firstNo qs) (q .number) ≡ 0 → Passed (q ∷ qs)
     go rest true a f = (true-T (q .answer) a, rest f)
     go rest false a f = absurd (T-not (eqb (q .number) 0) (and-l (not (eqb (q .number) 0)) (numbered qs) n) (rw f tt))
+
+-- the first no is not above m if no question's number is
+pub first-most : (m : ℕ) (qs : List Question) → T (every (λ q. leb (q .number) m) qs) → firstNo qs ≤ m
+unfolding firstNo
+first-most m [] t = omega arith
+first-most m (q ∷ qs) t =
+    let low : q .number ≤ m = leb-true (q .number) m (T-true (leb (q .number) m) (and-l (leb (q .number) m) (every (λ p. leb (p .number) m) qs) t)) in
+    let rest : firstNo qs ≤ m = first-most m qs (and-r (leb (q .number) m) (every (λ p. leb (p .number) m) qs) t) in
+    elim (two (q .answer)) [ inl e ↦ rw e rest | inr e ↦ rw e low ]
 
 -- Questions asked one after the other, as code does: question n, whose answer is a, and the questions qs after it. Either the
 -- code tests the question itself, or a callee answers it with t.

@@ -26,8 +26,9 @@ pub mod Asks
 -- law for each way in which the code returns.
 pub mod Kept
 pub mod Acts
--- Then the counts of holders.
+-- Then the counts of holders, and whom the editor search names.
 pub mod Holders
+pub mod Named
 -- Then explanations, which say what decided: which lines stand in the table, and what the group search meets.
 pub mod Standing
 pub mod Nearest

@@ -2,6 +2,7 @@
 -- The arguments of a call are plain numbers here, in the order in which the call takes them.
 use mathlib.Core.Bool.{Bool, _&&_, not, cond}
 use mathlib.Core.List.{List, [], _∷_, _++_}
+use mathlib.Core.Option.{Option, Option·getD}
 use Prim.Native.Nat.{ℕ, zero, suc, _<_, _^_}
 use lib.ListN.{length, set}
 use lib.Dec.{eqb, ltb}
@@ -9,19 +10,20 @@ use Rattle.model.specs.declared.SubjectRow.{SubjectRow}
 use Rattle.model.specs.declared.GrantRow.{GrantRow}
 use Rattle.model.specs.declared.LineRow.{LineRow}
 use Rattle.model.specs.declared.ItemRow.{ItemRow}
-use Rattle.model.specs.Lists.{howMany, ofEach, select, All}
+use Rattle.model.specs.Lists.{howMany, ofEach, lowestPassing, select, All}
 use Rattle.model.specs.Sorted.{put, cut}
 use Rattle.model.specs.WhoAndWhat.{custodian, editList, has, _∩_}
 use Rattle.model.specs.Image.{Tables, subjectRow, grantRow, lineRow, itemRow, withList}
-use Rattle.model.specs.Image.{withOwner, grantKey, lineKey, privilegesIn, itemIn, subjectUsed}
+use Rattle.model.specs.Image.{withOwner, grantKey, lineKey, privilegesIn, itemIn}
 use Rattle.model.specs.Permission.{operationSet, permissionSet}
 
--- The calls that only ask and whose result is one number, and decided.
+-- The calls that only ask and whose result is one number.
 pub data Ask : Type 0 where
   checkImage : Ask
   operationSetOf : (subject role : ℕ) → Ask
   permissionSetOf : (subject role item : ℕ) → Ask
   listCount : (list : ℕ) → Ask
+  findEditor : (list : ℕ) → Ask
 
 -- The calls that write the image.
 pub data Change : Type 0 where
@@ -86,9 +88,13 @@ rowsOf a lines = select (λ l. eqb (l .list .0) a) lines
 abbrev pub rowsBefore : ℕ → List LineRow → List LineRow
 rowsBefore a lines = select (λ l. ltb (l .list .0) a) lines
 
--- Editor search: the search may name s as an editor of list a.
+-- Editor search: s is an editor of list a if it is not the custodian and its permission set on a, under role 0, has the privilege
+-- to edit a list. The search names the lowest subject in use that is one (document 02, P5).
 abbrev pub isEditor : Tables → ℕ → ℕ → Bool
-isEditor t s a = subjectUsed (t .subjects) s && not (eqb s custodian) && has editList (permissionSet t s 0 a)
+isEditor t a s = not (eqb s custodian) && has editList (permissionSet t s 0 a)
+
+unfoldable pub lowestEditor : Tables → ℕ → Option ℕ
+lowestEditor t a = lowestPassing (isEditor t a) (length (t .subjects))
 
 -- The result of a call that asks.
 unfoldable pub askResult : Tables → Ask → ℕ
@@ -96,6 +102,7 @@ askResult t checkImage = 0
 askResult t (operationSetOf s r) = operationSet t s r
 askResult t (permissionSetOf s r i) = permissionSet t s r i
 askResult t (listCount a) = length (rowsOf a (t .lines))
+askResult t (findEditor a) = Option·getD (lowestEditor t a) 0
 
 -- The tables with the rows of one of them replaced and all else kept.
 

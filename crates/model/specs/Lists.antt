@@ -1,5 +1,5 @@
 -- General definitions about lists, which several sections of document 01 use.
-use mathlib.Core.Bool.{Bool, true, false, _&&_, not, cond}
+use mathlib.Core.Bool.{Bool, true, false, _&&_, cond}
 use mathlib.Core.List.{List, [], _∷_}
 use mathlib.Core.Option.{Option, none, some}
 use Prim.Native.Nat.{ℕ, zero, suc, _+_, _<_}
@@ -35,10 +35,6 @@ module _ {A : Type 0} where
   everyNumbered test [] = true
   everyNumbered test (x ∷ xs) = test 0 x && everyNumbered (λ n. test (suc n)) xs
 
-  -- some row passes such a test
-  abbrev pub someNumbered : (ℕ → A → Bool) → List A → Bool
-  someNumbered test xs = not (everyNumbered (λ n x. not (test n x)) xs)
-
   -- the rows that pass a test
   abbrev pub select : (A → Bool) → List A → List A
   select test [] = []
@@ -62,6 +58,11 @@ module _ {A : Type 0} where
   -- a row that may be missing is there
   abbrev pub isThere : Option A → Bool
   isThere = ifThere (λ a. true)
+
+-- the lowest of the numbers below n that passes a test, if one does
+unfoldable pub lowestPassing : (ℕ → Bool) → ℕ → Option ℕ
+lowestPassing test zero = none
+lowestPassing test (suc n) = orElse (lowestPassing test n) (cond (test n) (some n) none)
 
 -- nothing but zeros
 abbrev pub zeros : List ℕ → Bool

@@ -3,18 +3,17 @@
 use mathlib.Core.Bool.{Bool, _&&_, _||_, not, cond}
 use mathlib.Core.List.{List, [], _∷_, _++_}
 use mathlib.Core.Option.{Option}
-use mathlib.Core.Logic.{_≢_}
 use mathlib.Core.Path.{_≡_}
 use Prim.Native.Nat.{ℕ, _+_, _*_}
 use lib.ListN.{length, take, drop}
-use lib.Dec.{T, eqb, ltb, leb}
+use lib.Dec.{eqb, ltb, leb}
 use Rattle.model.specs.declared.Answer.{Answer}
 use Rattle.model.specs.declared.Explanation.{Explanation}
 use Rattle.model.specs.declared.GrantRow.{GrantRow}
 use Rattle.model.specs.declared.Layout.{Layout}
 use Rattle.model.specs.declared.Opened.{Opened}
 use Rattle.model.specs.declared.Opened.the-variants.{With, Refused}
-use Rattle.model.specs.Lists.{allOf, someNumbered, ifThere, isThere, Bytes}
+use Rattle.model.specs.Lists.{allOf, ifThere, isThere, Bytes}
 use Rattle.model.specs.Sorted.{find}
 use Rattle.model.specs.Tree.{inTree}
 use Rattle.model.specs.WhoAndWhat.{custodian, defineCall, createCall, setLineCall, removeLineCall, neededPosition, positionsOf, has}
@@ -23,8 +22,8 @@ use Rattle.model.specs.Image.{widthOf, widthIn, size, lineFormat, grantK
 use Rattle.model.specs.Image.{itemIn, itemUsed, isList, isLocked, noneOrList, flagsFit, kindFits}
 use Rattle.model.specs.Image.{layoutRules, subjectsHold, itemsHold, linesHold, grantsHold, unusedRules}
 use Rattle.model.specs.Permission.{grantOf, operationSet, permissionSet, explanation}
-use Rattle.model.specs.Calls.{Ask, Change, holderCounts, rowsOf, rowsBefore, isEditor, askResult, after, changeResult}
-use Rattle.model.specs.Calls.Ask.{checkImage, operationSetOf, permissionSetOf, listCount}
+use Rattle.model.specs.Calls.{Ask, Change, holderCounts, rowsOf, rowsBefore, lowestEditor, askResult, after, changeResult}
+use Rattle.model.specs.Calls.Ask.{checkImage, operationSetOf, permissionSetOf, listCount, findEditor}
 use Rattle.model.specs.Calls.Change.{defineSubject, setGrant, removeGrant, setLine, removeLine, createItem, bind, handOver}
 
 pub record Question : Type 0 where
@@ -63,6 +62,7 @@ askQuestions t checkImage = []
 askQuestions t (operationSetOf s r) = 10 asks subjectUsed (t .subjects) s ∷ []
 askQuestions t (permissionSetOf s r i) = 10 asks subjectUsed (t .subjects) s ∷ 12 asks itemUsed (t .items) i ∷ []
 askQuestions t (listCount a) = 13 asks isList (t .items) a ∷ []
+askQuestions t (findEditor a) = 13 asks isList (t .items) a ∷ 20 asks isThere (lowestEditor t a) ∷ []
 
 unfoldable pub explainQuestions : Tables → ℕ → ℕ → List Question
 explainQuestions t s i = 10 asks subjectUsed (t .subjects) s ∷ 12 asks itemUsed (t .items) i ∷ []
@@ -70,9 +70,6 @@ explainQuestions t s i = 10 asks subjectUsed (t .subjects) s ∷ 12 asks itemUse
 -- k is the number of the counts that are lent
 unfoldable pub holdersQuestions : Tables → ℕ → ℕ → List Question
 holdersQuestions t i k = 12 asks itemUsed (t .items) i ∷ 21 asks eqb k (positionsOf (widthIn t)) ∷ []
-
-unfoldable pub editorQuestions : Tables → ℕ → List Question
-editorQuestions t a = 13 asks isList (t .items) a ∷ 20 asks someNumbered (λ s row. isEditor t s a) (t .subjects) ∷ []
 
 -- question 16 of define subject: p is in the tree of caller c, or in that of the grantor of c's grant
 abbrev pub inReachUnder : Tables → ℕ → Option GrantRow → ℕ → Bool
@@ -241,10 +238,3 @@ listExtent img a = cond (shows img a) (length (rowsOf a (tables img .lines)) * s
 
 abbrev pub listSlice : List ℕ → ℕ → List ℕ
 listSlice img a = take (listExtent img a) (drop (listStart img a) img)
-
--- Editor search. Its number is decided. Its result is not: if there are several editors, it may name any of them. This record
--- is what holds of the answer.
-pub record EditorAnswer (img : List ℕ) (a : ℕ) (r : Answer) : Type 0 where
-  pub number-decided : r .number ≡ firstNo (imageQuestions img ++ editorQuestions (tables img) a)
-  pub refused : r .number ≢ 0 → r .result ≡ 0
-  pub found : r .number ≡ 0 → T (isEditor (tables img) (r .result) a)

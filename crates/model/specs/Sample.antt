@@ -1,16 +1,19 @@
 -- Document 01, "The sample workshop": the tables, and the twelve sets that are proved. Then the explanation of each of them
--- (document 02, P1), how many subjects hold each position (P2), and owners without an owner line (P4).
+-- (document 02, P1), how many subjects hold each position (P2), owners without an owner line (P4), and whom the editor search
+-- names (P5).
 use mathlib.Core.Bool.{Bool, _&&_}
 use mathlib.Core.List.{List, [], _∷_}
 use Prim.Native.Nat.{ℕ}
 use lib.Dec.{eqb}
 use lib.ListN.{replicate}
+use Rattle.model.specs.declared.Answer.{Answer}
 use Rattle.model.specs.declared.Explanation.{Explanation}
 use Rattle.model.specs.WhoAndWhat.{everything}
-use Rattle.model.specs.Image.{Tables, subjectRow, grantRow, lineRow, itemRow, itselfKind, groupKind, ownerKind, everyoneKind}
+use Rattle.model.specs.Image.{Tables, encode, subjectRow, grantRow, lineRow, itemRow}
+use Rattle.model.specs.Image.{itselfKind, groupKind, ownerKind, everyoneKind}
 use Rattle.model.specs.Calls.{after}
-use Rattle.model.specs.Calls.Ask.{permissionSetOf}
-use Rattle.model.specs.Calls.Change.{removeLine, handOver}
+use Rattle.model.specs.Calls.Ask.{permissionSetOf, findEditor}
+use Rattle.model.specs.Calls.Change.{setGrant, setLine, removeLine, handOver}
 use Rattle.model.specs.Questions.{answer, ask, refusedExplanation, explain, Counting, countHolders}
 
 -- Each table has one free row.
@@ -160,3 +163,46 @@ ownerCases = case 4 0 3 9 ∷ case 5 0 1 1 ∷ case 2 0 2 3 ∷ []
 
 abbrev pub ownerReasons : List Explanation
 ownerReasons = because 3 0 8 1 0 9 ∷ because 3 0 0 1 0 3 ∷ because 4 1 3 1 0 91 ∷ []
+
+-- Whom the editor search names. 64 is the set with the privilege to edit a list alone. In the workshop nobody but the custodian has
+-- it on list 1. One line after the other then makes 3 an editor, 2, which is in the group of 1, and 1, which owns the list.
+abbrev oneEditor : Tables
+oneEditor = after workshop (setLine 0 0 1 itselfKind 3 64)
+
+abbrev twoEditors : Tables
+twoEditors = after oneEditor (setLine 0 0 1 groupKind 1 64)
+
+abbrev threeEditors : Tables
+threeEditors = after twoEditors (setLine 0 0 1 ownerKind 0 64)
+
+-- When 4 owns the list, 1 may edit it only under a role: 3 grants it role 8.
+abbrev editorByRole : Tables
+editorByRole = after (after threeEditors (handOver 0 1 4)) (setGrant 3 1 8 3 64)
+
+-- the editor search for a list on the image of some tables, with the number and the result that it answers
+pub record Search : Type 0 where
+  pub tables : Tables
+  pub list : ℕ
+  pub number : ℕ
+  pub result : ℕ
+
+abbrev search : Tables → ℕ → ℕ → ℕ → Search
+search t a n s = record { tables = t; list = a; number = n; result = s }
+
+abbrev searched : Search → Answer
+searched c = ask (encode (c .tables)) (findEditor (c .list))
+
+abbrev pub searchedRight : Search → Bool
+searchedRight c = eqb (searched c .number) (c .number) && eqb (searched c .result) (c .result)
+
+-- The list without an editor, an item that is no list, an item that is not in use; then each of the tables above.
+abbrev pub searches : List Search
+searches =
+    search workshop 1 20 0
+    ∷ search workshop 2 13 0
+    ∷ search workshop 5 13 0
+    ∷ search oneEditor 1 0 3
+    ∷ search twoEditors 1 0 2
+    ∷ search threeEditors 1 0 1
+    ∷ search editorByRole 1 0 2
+    ∷ []

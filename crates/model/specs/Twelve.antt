@@ -1,7 +1,7 @@
 -- The twelve sets of the sample workshop, proved against the rules: the permission set call answers each of them on the
 -- workshop's image, which is accepted. One theorem covers the whole table. Another covers the explanations of these sets, a third
--- three further explanations, two of them refused, a fourth the counts of holders on each item and four refused calls. The last
--- two are about owners without an owner line. All are proved by computation.
+-- three further explanations, two of them refused, a fourth the counts of holders on each item and four refused calls. Two are
+-- about owners without an owner line. The last is about whom the editor search names. All are proved by computation.
 use mathlib.Core.List.{map}
 use mathlib.Core.Path.{_≡_, refl}
 use lib.Dec.{T}
@@ -10,6 +10,7 @@ use Rattle.model.specs.Image.{encode}
 use Rattle.model.specs.Computing.{computing}
 use Rattle.model.specs.Sample.{workshop, twelve, right, reasons, explainedCase, furtherCases, furtherReasons}
 use Rattle.model.specs.Sample.{countedCase, countCases, countOutcomes, withoutOwnerLine, ownerCases, ownerReasons}
+use Rattle.model.specs.Sample.{searchedRight, searches}
 
 pub the-twelve : T (every (right (encode workshop)) twelve)
 unfolding workshop computing
@@ -34,3 +35,7 @@ the-owners = tt
 pub the-owners-reasons : map (explainedCase (encode withoutOwnerLine)) ownerCases ≡ ownerReasons
 unfolding workshop computing
 the-owners-reasons = refl
+
+pub the-editors : T (every searchedRight searches)
+unfolding workshop computing
+the-editors = tt

@@ -2,7 +2,6 @@
 use super::printing::end_line;
 use super::printing::print_number;
 use super::printing::print_outcome;
-use super::questions::ask_editor;
 use super::questions::ask_operations;
 use super::questions::ask_permission;
 use super::workshop;
@@ -20,8 +19,7 @@ use model::Role;
 use model::Subject;
 
 // The cases of document 01, each on a new image of the sample workshop. Where the paper leaves numbers out, there are
-// several cases. Then one case that is done, for each call that is not done in any of those, and an editor search that
-// names somebody.
+// several cases. Then one case that is done, for each call that is not done in any of those.
 pub fn print_changes() {
     print_define(1, 0, 2, 255);
     print_define(1, 0, 3, 255);
@@ -43,7 +41,6 @@ pub fn print_changes() {
     print_remove_grant(2, 4, 7);
     print_create(2, 1, 0);
     print_hand_over(0, 4, 5);
-    print_editor_found();
 }
 
 // Where the subject is defined, its operation set is printed too.
@@ -125,17 +122,7 @@ fn print_set_line(caller: u32, list: u32, kind: u32, subject: u32, privileges: u
     end_line();
 }
 
-// The line that is set makes subject 3 the only one, but for the custodian, that may edit list 1. So the search has to name
-// it, although in general it is undecided whom the search names.
-fn print_editor_found() {
-    let mut image = workshop::image();
-    ask_set_line(&mut image, 0, 1, 0, 3, 64);
-    io::write_all(1, b"; ");
-    ask_editor(&image, 1);
-    end_line();
-}
-
-fn ask_set_line(
+pub fn ask_set_line(
     image: &mut [u8],
     caller: u32,
     list: u32,

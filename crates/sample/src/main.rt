@@ -2,6 +2,7 @@
 // has what was asked and what came back: the number and the result. After a call that may write, the line also has the
 // number that `check` answers for the image afterwards.
 mod changes;
+mod editors;
 mod owners;
 mod printing;
 mod questions;
@@ -14,5 +15,6 @@ fn main() {
     questions::print_checks();
     changes::print_changes();
     owners::print_owners();
+    editors::print_editors();
     strangers::print_strangers();
 }

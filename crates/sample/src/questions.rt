@@ -18,7 +18,7 @@ use model::Role;
 use model::Subject;
 
 // The twelve permission sets, each with its explanation, two explanations that are refused, the holders on each item, and one
-// case of each other call that asks but `check`.
+// case of each other call that asks but `check` and the editor search.
 pub fn print_questions(image: &[u8]) {
     print_case(image, 2, 0, 2);
     print_case(image, 2, 0, 3);
@@ -38,8 +38,6 @@ pub fn print_questions(image: &[u8]) {
     ask_operations(image, 4, 7);
     end_line();
     print_lines(image, 1);
-    ask_editor(image, 1);
-    end_line();
 }
 
 // Checks of 35 bytes, of 36 bytes without a subject, of 48 bytes with only the custodian, and of 65,537 bytes.
@@ -99,6 +97,12 @@ fn print_explanation(image: &[u8], subject: u32, role: u32, item: u32) {
     end_line();
 }
 
+pub fn print_editor(image: &[u8], list: u32) {
+    print_number(b"find_editor list ", list);
+    print_answer(find_editor(image, Item(list)));
+    end_line();
+}
+
 // The holders on each item, then four calls that are refused: on an item that is not in use, with one count too few, with one
 // too many, and on that item with one too few. Counts are 9 at first. Later calls are lent what the earlier ones left.
 fn print_all_holders(image: &[u8]) {
@@ -135,11 +139,6 @@ pub fn ask_operations(image: &[u8], subject: u32, role: u32) {
     print_number(b"operation_set subject ", subject);
     print_number(b" role ", role);
     print_answer(operation_set(image, Subject(subject), Role(role)));
-}
-
-pub fn ask_editor(image: &[u8], list: u32) {
-    print_number(b"find_editor list ", list);
-    print_answer(find_editor(image, Item(list)));
 }
 
 // The rows of a list: how many, at which offset they start, and how many bytes their slice of the image has.

@@ -20,7 +20,6 @@ pub data Reading : Type 0 where
   explains : (subject role item : ℕ) → Reading
   countsHolders : (item : ℕ) → (counts : List ℕ) → Reading
   showsLines : (list : ℕ) → Reading
-  searchesEditor : (list : ℕ) → Reading
 
 -- One step of a sequence: a call that may change the tables, or one that only reads. Both kinds may come in any order.
 pub data Step : Type 0 where

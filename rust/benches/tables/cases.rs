@@ -38,6 +38,7 @@ pub fn cases() -> Vec<Case> {
         chain_case(),
         lines_case(),
         owners_case(),
+        editors_case(),
         longest_report_case(),
     ]
 }
@@ -181,6 +182,17 @@ fn owners_case() -> Case {
             ),
             call("count holders", holders_on(item)),
         ],
+    }
+}
+
+/// Nobody in the first half of the subjects may edit the list, and many in the second half may.
+fn editors_case() -> Case {
+    let tables = images::with_editors();
+    let list = list_in_the_middle(&tables);
+    Case {
+        image_name: "editors",
+        image: tables.image(),
+        operations: vec![call("editor search, the lowest of many", editor_of(list))],
     }
 }
 

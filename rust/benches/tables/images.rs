@@ -106,6 +106,18 @@ pub fn without_owner_lines() -> Tables {
     tables
 }
 
+/// The same lines. Those for the second half of the subjects, by themselves or as groups, also give the
+/// right to edit the list.
+pub fn with_editors() -> Tables {
+    let mut tables = lines();
+    for [_, kind, subject, privileges] in &mut tables.lines.rows {
+        if matches!(*kind, ITSELF | GROUP) && *subject >= 150 {
+            *privileges |= EDIT_LIST;
+        }
+    }
+    tables
+}
+
 /// As many pairs of a subject and an item as fit, which gives the longest report: 7,447,441 lines
 /// after the heading. There are no lists and the tree is flat, so the time goes into the printing.
 pub fn longest_report() -> Tables {

@@ -216,6 +216,8 @@ static void ask(void)
     refused(dacm_find_editor(image, LENGTH, none), DACM_NOT_A_LIST);
     accepted(dacm_set_line(image, LENGTH, custodian, no_role, list, DACM_ITSELF, third, DACM_EDIT_LIST), 0);
     accepted(dacm_find_editor(image, LENGTH, list), third.number);
+    accepted(dacm_set_line(image, LENGTH, custodian, no_role, list, DACM_GROUP, first, DACM_EDIT_LIST), 0);
+    accepted(dacm_find_editor(image, LENGTH, list), second.number);
 }
 
 static void change_subjects_and_grants(void)

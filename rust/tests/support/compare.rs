@@ -4,7 +4,6 @@
 use super::call::{Call, Outcome};
 use super::explanation::Question;
 use super::holders::assert_counts_hold;
-use crate::twin;
 
 /// Makes the call on the library, on the twin and on the yardstick. All must answer the same and
 /// leave the same bytes. If the call is refused or only asks, these must be the bytes from before.
@@ -26,14 +25,14 @@ pub fn compare_made_by(
     let mut after = before.clone();
     let twins = call.on_twin(&mut after);
     assert!(
-        agree(&before, call, &ours, &twins),
+        ours == twins,
         "{seed}: {call:?} answers {ours:?}, the twin {twins:?}"
     );
     assert_same_bytes(image, &after, call, seed, "the twin leaves");
     after.copy_from_slice(&before);
     let yardsticks = call.on_yardstick(&mut after);
     assert!(
-        agree(&before, call, &yardsticks, &twins),
+        ours == yardsticks,
         "{seed}: {call:?} answers {ours:?}, the yardstick {yardsticks:?}"
     );
     assert_same_bytes(image, &after, call, seed, "the yardstick leaves");
@@ -47,16 +46,6 @@ pub fn compare_made_by(
         assert_counts_hold(&before, item, &ours, seed);
     }
     ours
-}
-
-/// If there are several editors, it is undecided which of them is named: any of them is right.
-fn agree(image: &[u8], call: &Call, outcome: &Outcome, twins: &Outcome) -> bool {
-    match *call {
-        Call::FindEditor { list } if outcome.number == 0 => {
-            twins.number == 0 && twin::is_editor(image, list, outcome.result)
-        }
-        _ => outcome == twins,
-    }
 }
 
 fn assert_same_bytes(image: &[u8], other: &[u8], call: &Call, seed: &str, said: &str) {

@@ -11,6 +11,7 @@ pub mod choose;
 pub mod compare;
 pub mod coverage;
 pub mod damage;
+pub mod editors;
 pub mod examples;
 pub mod explanation;
 pub mod holders;

@@ -1,7 +1,7 @@
 //! The calls that only ask.
 
 use super::image::Image;
-use super::permission;
+use super::permission::{self, EDIT_LIST};
 use super::rows::{NO_ROLE, POSITIONS};
 use super::table::LINES;
 use super::{answer, ask, Answer, Explanation, Refused};
@@ -83,25 +83,17 @@ fn list_rows(image: &[u8], list: u32) -> Result<Range<usize>, Refused> {
     Ok(image.lines_of(list))
 }
 
-/// If several subjects may edit the list, it is undecided which of them is named.
-/// This implementation names the one with the lowest number.
+/// The lowest subject other than the custodian that may edit the list without a role.
+/// The list is taken as an item here: the lines of its own list decide, not its own
+/// lines.
 pub fn find_editor(image: &[u8], list: u32) -> Answer {
     answer(|| {
         let image = Image::open(image)?;
         let list = image.list(list).ok_or(Refused(13))?;
-        (1..image.subject_count())
-            .find(|&subject| permission::may_be_named(&image, list, subject))
-            .ok_or(Refused(20))
-    })
-}
-
-/// May the editor search on this list name this subject? No if the image is not
-/// accepted, and no if the item is not a list.
-pub fn is_editor(image: &[u8], list: u32, subject: u32) -> bool {
-    let Ok(image) = Image::open(image) else {
-        return false;
-    };
-    image.list(list).is_some_and(|list| {
-        image.has_subject(subject) && permission::may_be_named(&image, list, subject)
+        let may_edit = |subject: &u32| {
+            permission::permission_set(&image, *subject, NO_ROLE, list) & EDIT_LIST != 0
+        };
+        let mut others = 1..image.subject_count();
+        others.find(may_edit).ok_or(Refused(20))
     })
 }

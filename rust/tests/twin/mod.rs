@@ -22,7 +22,7 @@ mod table;
 
 #[allow(unused_imports)]
 pub use asking::{
-    check, count_holders, explain, find_editor, is_editor, list_count, list_start, operation_set,
+    check, count_holders, explain, find_editor, list_count, list_start, operation_set,
     permission_set,
 };
 #[allow(unused_imports)]

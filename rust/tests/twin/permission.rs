@@ -1,7 +1,7 @@
 //! How a permission is found, on an accepted image.
 
 use super::image::Image;
-use super::rows::{Grant, Item, ALL, CUSTODIAN, EVERYONE, GROUP, ITSELF, NO_ROLE, OWNER};
+use super::rows::{Grant, Item, ALL, CUSTODIAN, EVERYONE, GROUP, ITSELF, OWNER};
 use super::Explanation;
 
 /// The privileges that calls need: bits 4, 5 and 6 of a set.
@@ -130,10 +130,4 @@ pub fn explain(image: &Image, subject: u32, role: u32, item: Item) -> Explanatio
         role_set: role_part(image, grant, item),
         operations: operation_set(image, subject, grant),
     }
-}
-
-/// May the editor search on this list name this subject? The list is taken as an
-/// item here: the lines of its own list decide, not its own lines.
-pub fn may_be_named(image: &Image, list: Item, subject: u32) -> bool {
-    subject != CUSTODIAN && permission_set(image, subject, NO_ROLE, list) & EDIT_LIST != 0
 }

@@ -74,11 +74,11 @@ fn lines_of(image: &[u8], list: u32) -> Asked<(usize, &[LineRow])> {
     Ok((LINES.offset(image, index), lines))
 }
 
-/// It is undecided which of several editors is named.
+/// The lowest subject other than the custodian that may edit the list, without a role.
 pub fn find_editor(image: &[u8], list: u32) -> Answer {
     Answer::to(|| {
         let tables = open(image)?;
         let list = tables.list(list).ok_or(Question::List)?;
-        editor::find(&tables, list).ok_or(Question::Editor)
+        editor::lowest(&tables, list).ok_or(Question::Editor)
     })
 }

@@ -5,21 +5,21 @@ use super::list::List;
 use super::rows::{Item, Line, CUSTODIAN, EDIT_LIST};
 use super::tables::Tables;
 
-/// A subject other than the custodian that may edit the list, if there is one. The list is an item
-/// here: the lines of its own list decide.
-pub fn find(tables: &Tables, item: Item) -> Option<u32> {
+/// The lowest subject other than the custodian that may edit the list, if there is one. The list is an
+/// item here: the lines of its own list decide.
+pub fn lowest(tables: &Tables, item: Item) -> Option<u32> {
     let search = Search {
         tables,
         owner: item.owner,
         list: tables.list_of(item),
     };
     if search.list.everyone.is_some_and(gives) {
-        return search.any_able();
+        return search.lowest_able();
     }
-    search
-        .by_owner_line()
-        .or_else(|| search.by_own_line())
-        .or_else(|| search.by_group_line())
+    let direct = [search.by_owner_line(), search.by_own_line()];
+    let direct = direct.into_iter().flatten().min();
+    let end = direct.unwrap_or(tables.subject_count());
+    search.by_group_line(end).or(direct)
 }
 
 fn gives(privileges: u32) -> bool {
@@ -38,7 +38,7 @@ impl Search<'_> {
         subject != CUSTODIAN && gives(self.tables.subject(subject).privileges)
     }
 
-    fn any_able(&self) -> Option<u32> {
+    fn lowest_able(&self) -> Option<u32> {
         (0..self.tables.subject_count()).find(|&subject| self.is_able(subject))
     }
 
@@ -47,7 +47,8 @@ impl Search<'_> {
         (given && self.is_able(self.owner)).then_some(self.owner)
     }
 
-    /// The owner's own line does not count beside an owner line.
+    /// The lines stand in the order of their subjects. The owner's own line does not count beside an
+    /// owner line.
     fn by_own_line(&self) -> Option<u32> {
         let passed_over = self.list.owner.map(|_| self.owner);
         let mut lines = self.list.own().iter().map(Line::of);
@@ -58,16 +59,16 @@ impl Search<'_> {
         named.map(|line| line.subject)
     }
 
-    /// One pass from the top: what the groups give a subject is known before anybody below it is
-    /// looked at.
-    fn by_group_line(&self) -> Option<u32> {
+    /// One pass from the top, over the subjects before `end`: what the groups give a subject is known
+    /// before anybody below it is looked at.
+    fn by_group_line(&self, end: u32) -> Option<u32> {
         let mut lines = self.list.groups().iter().map(Line::of).peekable();
         if !lines.clone().any(|line| gives(line.privileges)) {
             return None;
         }
         let tree = self.tables.tree();
-        let mut given_below = Vec::with_capacity(self.tables.subjects.used.len());
-        for subject in 0..self.tables.subject_count() {
+        let mut given_below = Vec::with_capacity(end as usize);
+        for subject in 0..end {
             let above = subject != CUSTODIAN && given_below[tree.parent(subject) as usize];
             let by_groups = || self.list.by_direct_line(subject, self.owner).is_none();
             if above && self.is_able(subject) && by_groups() {

@@ -1,6 +1,10 @@
 -- `asking::editor::find_editor` meets its contract: the questions in their order, and then the search.
 use borrow.Author.Needs.{needs}
-use Rattle.asking.specs.EditorAnswers.{editor-image, editor-no-list, editor-none, editor-found}
+use Rattle.laws.specs.Answers.{tested-no, tested-yes, asked-no, asked-yes, asked-all}
+use Rattle.laws.specs.Asks.{ask-image, ask-no, ask-done}
+use Rattle.model.specs.Calls.{askResult}
+use Rattle.model.specs.Questions.{askQuestions}
+use Rattle.asking.specs.Editors.{editor-none, editor-there}
 use Rattle.asking.proofs.editor.find_editor.Statement.{statement}
 use Rattle.asking.proofs.editor.find_editor.Tie as tie
 
@@ -17,7 +21,7 @@ refused-requires : tie.Need-refused-requires
 refused-requires c κs = search needs
 
 returns : tie.Need-returns
-returns c = search editor-image
+returns c = search ask-image
 
 is-list-requires : tie.Need-is-list-requires
 is-list-requires c κs = search needs
@@ -26,22 +30,25 @@ refused-requires-2 : tie.Need-refused-requires-2
 refused-requires-2 c κs = search needs
 
 returns-2 : tie.Need-returns-2
-returns-2 c = search editor-no-list
+unfolding askQuestions
+returns-2 c = search (ask-no, asked-no)
 
-some-editor-requires : tie.Need-some-editor-requires
-some-editor-requires c κs = search needs
+lowest-editor-requires : tie.Need-lowest-editor-requires
+lowest-editor-requires c κs = search needs
 
 refused-requires-3 : tie.Need-refused-requires-3
 refused-requires-3 c κs = search needs
 
 returns-3 : tie.Need-returns-3
-returns-3 c = search editor-none
+unfolding askQuestions
+returns-3 c = search (ask-no, asked-yes, tested-no, editor-none)
 
 done-requires : tie.Need-done-requires
 done-requires c κs = search needs
 
 returns-4 : tie.Need-returns-4
-returns-4 c = search editor-found
+unfolding askQuestions askResult
+returns-4 c = search (ask-done, asked-yes, tested-yes, asked-all, editor-there)
 
 pub find-editor-spec : {M : Type 1} → statement M
 find-editor-spec =
@@ -55,7 +62,7 @@ find-editor-spec =
     is-list-requires
     refused-requires-2
     returns-2
-    some-editor-requires
+    lowest-editor-requires
     refused-requires-3
     returns-3
     done-requires

@@ -1,11 +1,11 @@
--- `asking::editor::some_editor` meets its contract: in each turn of the loop, no subject that was passed is an editor.
+-- `asking::editor::lowest_editor` meets its contract: in each turn of the loop, no subject that was passed is an editor.
 use Prim.Native.Nat.{_-_}
 use native.Mathlib.Omega.{arith}
 use borrow.Author.Needs.{needs}
 use Rattle.model.specs.Image.{tablesBy}
 use Rattle.asking.specs.Editors.{Tried, tried-none, tried-here, tried-next, tried-all, subjects-used}
-use Rattle.asking.proofs.editor.some_editor.Statement.{statement}
-use Rattle.asking.proofs.editor.some_editor.Tie as tie
+use Rattle.asking.proofs.editor.lowest_editor.Statement.{statement}
+use Rattle.asking.proofs.editor.lowest_editor.Tie as tie
 
 abbrev Inv-loop : tie.InvT-loop
 Inv-loop image layout list row used n₀ n = Tried (tablesBy layout image) (list .0) n
@@ -38,8 +38,8 @@ loop-again c = search (tried-next, subjects-used)
 returns-2 : tie.Need-returns-2 Inv-loop μ-loop
 returns-2 c = search (tried-all, subjects-used)
 
-pub some-editor-spec : {M : Type 1} → statement M
-some-editor-spec =
+pub lowest-editor-spec : {M : Type 1} → statement M
+lowest-editor-spec =
     tie.close
     (tie.spec
     Inv-loop
