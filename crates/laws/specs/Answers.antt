@@ -36,9 +36,12 @@ pub first-most : (m : ℕ) (qs : List Question) → T (every (λ q. leb (q .numb
 unfolding firstNo
 first-most m [] t = omega arith
 first-most m (q ∷ qs) t =
-    let low : q .number ≤ m = leb-true (q .number) m (T-true (leb (q .number) m) (and-l (leb (q .number) m) (every (λ p. leb (p .number) m) qs) t)) in
-    let rest : firstNo qs ≤ m = first-most m qs (and-r (leb (q .number) m) (every (λ p. leb (p .number) m) qs) t) in
-    elim (two (q .answer)) [ inl e ↦ rw e rest | inr e ↦ rw e low ]
+    let low : T (leb (q .number) m) = and-l (leb (q .number) m) (every (λ p. leb (p .number) m) qs) t in
+    let rest : T (every (λ p. leb (p .number) m) qs) = and-r (leb (q .number) m) (every (λ p. leb (p .number) m) qs) t in
+    elim (two (q .answer)) [
+      | inl e ↦ rw e (first-most m qs rest)
+      | inr e ↦ rw e (leb-true (q .number) m (T-true (leb (q .number) m) low))
+    ]
 
 -- Questions asked one after the other, as code does: question n, whose answer is a, and the questions qs after it. Either the
 -- code tests the question itself, or a callee answers it with t.

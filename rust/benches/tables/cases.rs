@@ -192,7 +192,7 @@ fn editors_case() -> Case {
     Case {
         image_name: "editors",
         image: tables.image(),
-        operations: vec![call("editor search, the lowest of many", editor_of(list))],
+        operations: vec![call("editor search, lowest of many", editor_of(list))],
     }
 }
 
