@@ -8,7 +8,7 @@
 //! of its own questions. The test of damaged images demands that each call was refused with each of
 //! the questions 1 to 7. The test of explanations demands that there was one of each sort, the test of
 //! counts that at each position one, several and all subjects were counted, and the test of editors
-//! that by each rule the only one and the lowest of several was named.
+//! that each rule, and the line for everyone, made the only editor and the lowest of several.
 
 mod support;
 mod twin;
@@ -182,7 +182,7 @@ fn refusal_of_counts(tables: &Tables, item: u32, entries: usize) -> u32 {
 #[test]
 fn editors() {
     let endings = &mut BTreeSet::new();
-    for seed in 0..rounds(2_000) {
+    for seed in 0..rounds(20_000) {
         let random = &mut Random::new(seed);
         let tables = Size::small(random).library(random);
         let image = &mut tables.image();

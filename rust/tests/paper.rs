@@ -192,7 +192,7 @@ fn the_lowest_editor() {
     assert_eq!(editor_of(&tables, 1), accepted(1));
 }
 
-/// The line for everyone reaches all, but 1 has no right in its own row any more.
+/// The line for everyone reaches all. Then 1 loses the right in its own row.
 #[test]
 fn the_lowest_editor_by_the_line_for_everyone() {
     let mut tables = sample();
@@ -215,7 +215,14 @@ fn an_editor_only_under_a_role() {
     assert_eq!(permission_set(image, 1, 8, 1), accepted(65));
     assert_eq!(permission_set(image, 1, 0, 1), accepted(1));
     assert_eq!(editor_of(&tables, 1), accepted(3));
-    tables.lines.rows[0] = [1, ITSELF, 3, 0];
+}
+
+/// The custodian lends 1 the right to edit. Under role 0 nobody else has it.
+#[test]
+fn nobody_but_under_a_role() {
+    let mut tables = sample();
+    tables.grants.rows.insert(0, [1, 8, 0, 0, 64]);
+    assert_eq!(permission_set(&mut tables.image(), 1, 8, 1), accepted(71));
     assert_eq!(editor_of(&tables, 1), refused(20));
 }
 

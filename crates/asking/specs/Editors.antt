@@ -10,7 +10,7 @@ use borrow.Author.Tests.{ne-eqb, eq-eqb, not-true, not-false}
 use lib.ListN.{length}
 use Rattle.model.specs.declared.ItemRow.{ItemRow}
 use Rattle.model.specs.declared.Layout.{Layout}
-use Rattle.model.specs.Lists.{isThere, lowestPassing}
+use Rattle.model.specs.Lists.{isThere}
 use Rattle.model.specs.WhoAndWhat.{editList, has}
 use Rattle.model.specs.Image.{Tables, widthOf, subjectFormat, tablesBy, privilegesIn, itemIn}
 use Rattle.model.specs.Permission.{partOn, permissionSet}

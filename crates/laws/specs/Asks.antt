@@ -26,12 +26,12 @@ use Rattle.laws.specs.Opens.{opened-yes, refused-by, opened-with, layout
 -- answered.
 module _ (img : List ℕ) (o : Opened) (is : o ≡ opened img) (qs : Tables → List Question) where
   -- if the image is refused, the call answers the image's refusal
-  pub number-image : (n : ℕ) → o ≡ Refused n → n ≡ firstNo (imageQuestions img ++ qs (tables img))
+  number-image : (n : ℕ) → o ≡ Refused n → n ≡ firstNo (imageQuestions img ++ qs (tables img))
   unfolding check imageQuestions
   number-image n case = let by = refused-by img o is n case in first-left (imageQuestions img) (qs (tables img)) n tt (by .0) (by .1)
 
   -- if the image is opened, the call's own questions decide; they are asked of the tables by the layout
-  pub number-own : (lay : Layout) → o ≡ With lay → firstNo (qs (tablesBy lay img)) ≡ firstNo (imageQuestions img ++ qs (tables img))
+  number-own : (lay : Layout) → o ≡ With lay → firstNo (qs (tablesBy lay img)) ≡ firstNo (imageQuestions img ++ qs (tables img))
   unfolding check imageQuestions
   number-own lay case =
       let with = opened-with img o is lay case in

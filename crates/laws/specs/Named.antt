@@ -1,16 +1,15 @@
 -- Whom the editor search names, by what the permission set call answers: the lowest subject other than the custodian whose set on the
 -- list has the privilege to edit a list. If the search is refused with 20, no set but the custodian's has it.
 use mathlib.Core.Bool.{Bool, true, false, _&&_, not, false≢true}
-use mathlib.Core.List.{List, [], _∷_, _++_}
+use mathlib.Core.List.{List, [], _∷_}
 use mathlib.Core.Logic.{_≢_, inl, inr}
 use mathlib.Core.Option.{Option, none, some, Option·getD}
-use mathlib.Core.Path.{_≡_, refl, sym, ap, _∙_}
+use mathlib.Core.Path.{_≡_, refl, sym, _∙_}
 use Prim.Native.Nat.{ℕ, _<_}
 use native.Mathlib.Omega.{arith}
 use borrow.Author.Tests.{eq-eqb, ne-eqb}
 use lib.Dec.{T, eqb, lt→ltb}
 use lib.ListN.{length}
-use Rattle.model.specs.declared.Answer.{Answer}
 use Rattle.model.specs.Lists.{isThere}
 use Rattle.model.specs.WhoAndWhat.{custodian, editList, has}
 use Rattle.model.specs.Image.{tables, isList, itemUsed}

@@ -180,29 +180,29 @@ abbrev editorByRole : Tables
 editorByRole = after (after threeEditors (handOver 0 1 4)) (setGrant 3 1 8 3 64)
 
 -- the editor search for a list on the image of some tables, with the number and the result that it answers
-pub record Search : Type 0 where
+pub record EditorSearch : Type 0 where
   pub tables : Tables
   pub list : ℕ
   pub number : ℕ
   pub result : ℕ
 
-abbrev search : Tables → ℕ → ℕ → ℕ → Search
-search t a n s = record { tables = t; list = a; number = n; result = s }
+abbrev editorSearch : Tables → ℕ → ℕ → ℕ → EditorSearch
+editorSearch t a n s = record { tables = t; list = a; number = n; result = s }
 
-abbrev searched : Search → Answer
-searched c = ask (encode (c .tables)) (findEditor (c .list))
+abbrev named : EditorSearch → Answer
+named c = ask (encode (c .tables)) (findEditor (c .list))
 
-abbrev pub searchedRight : Search → Bool
-searchedRight c = eqb (searched c .number) (c .number) && eqb (searched c .result) (c .result)
+abbrev pub namedRight : EditorSearch → Bool
+namedRight c = eqb (named c .number) (c .number) && eqb (named c .result) (c .result)
 
 -- The list without an editor, an item that is no list, an item that is not in use; then each of the tables above.
-abbrev pub searches : List Search
-searches =
-    search workshop 1 20 0
-    ∷ search workshop 2 13 0
-    ∷ search workshop 5 13 0
-    ∷ search oneEditor 1 0 3
-    ∷ search twoEditors 1 0 2
-    ∷ search threeEditors 1 0 1
-    ∷ search editorByRole 1 0 2
+abbrev pub editorSearches : List EditorSearch
+editorSearches =
+    editorSearch workshop 1 20 0
+    ∷ editorSearch workshop 2 13 0
+    ∷ editorSearch workshop 5 13 0
+    ∷ editorSearch oneEditor 1 0 3
+    ∷ editorSearch twoEditors 1 0 2
+    ∷ editorSearch threeEditors 1 0 1
+    ∷ editorSearch editorByRole 1 0 2
     ∷ []

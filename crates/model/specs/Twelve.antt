@@ -10,7 +10,7 @@ use Rattle.model.specs.Image.{encode}
 use Rattle.model.specs.Computing.{computing}
 use Rattle.model.specs.Sample.{workshop, twelve, right, reasons, explainedCase, furtherCases, furtherReasons}
 use Rattle.model.specs.Sample.{countedCase, countCases, countOutcomes, withoutOwnerLine, ownerCases, ownerReasons}
-use Rattle.model.specs.Sample.{searchedRight, searches}
+use Rattle.model.specs.Sample.{namedRight, editorSearches}
 
 pub the-twelve : T (every (right (encode workshop)) twelve)
 unfolding workshop computing
@@ -36,6 +36,6 @@ pub the-owners-reasons : map (explainedCase (encode withoutOwnerLine)) ownerCase
 unfolding workshop computing
 the-owners-reasons = refl
 
-pub the-editors : T (every searchedRight searches)
+pub the-editors : T (every namedRight editorSearches)
 unfolding workshop computing
 the-editors = tt

@@ -185,7 +185,8 @@ fn owners_case() -> Case {
     }
 }
 
-/// Nobody in the first half of the subjects may edit the list, and many in the second half may.
+/// But for the custodian, nobody in the first half of the subjects may edit the list. Many in the second
+/// half may.
 fn editors_case() -> Case {
     let tables = images::with_editors();
     let list = list_in_the_middle(&tables);

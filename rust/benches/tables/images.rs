@@ -106,7 +106,7 @@ pub fn without_owner_lines() -> Tables {
     tables
 }
 
-/// The same lines. Those for the second half of the subjects, by themselves or as groups, also give the
+/// The 3,000 lines. Those for the second half of the subjects, by themselves or as groups, also give the
 /// right to edit the list.
 pub fn with_editors() -> Tables {
     let mut tables = lines();

@@ -1,5 +1,6 @@
 //! Whom the editor search must name, by the permission sets that the library answers.
 
+use super::explanation::NOTHING_FOUND;
 use super::tables::Tables;
 use dacm::{Item, Privileges, Role, Subject};
 
@@ -11,7 +12,7 @@ pub enum Ending {
     Nobody {
         under_role: bool,
     },
-    /// The rule behind the permission set of whoever is named, and whether others could be named.
+    /// The rule that gives whoever is named the right to edit, and whether others could be named.
     Named {
         rule: u32,
         several: bool,
@@ -31,13 +32,23 @@ pub fn expected(tables: &Tables, image: &[u8], list: u32) -> (u32, u32, Ending) 
         let under_role = others_under_role(tables, image, list, others.end);
         return (20, 0, Ending::Nobody { under_role });
     };
-    let why = dacm::explain(image, Subject(lowest), Role::NONE, Item(list));
     let ending = Ending::Named {
-        rule: why.expect("its permission set was answered").rule.number(),
+        rule: giving_rule(image, lowest, list),
         several: editors.len() > 1,
         under_role: others_under_role(tables, image, list, lowest),
     };
     (0, lowest, ending)
+}
+
+/// The rule that gives a subject the right to edit. The line for everyone has none, so it counts as the
+/// rule that finds nothing.
+fn giving_rule(image: &[u8], subject: u32, list: u32) -> u32 {
+    let why = dacm::explain(image, Subject(subject), Role::NONE, Item(list));
+    let why = why.expect("its permission set was answered");
+    match why.rule_set.contains(Privileges::EDIT_LIST) {
+        true => why.rule.number(),
+        false => NOTHING_FOUND,
+    }
 }
 
 /// Could a subject before `end`, other than the custodian, edit the list under a role?
