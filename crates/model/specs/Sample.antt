@@ -195,14 +195,15 @@ named c = ask (encode (c .tables)) (findEditor (c .list))
 abbrev pub namedRight : EditorSearch → Bool
 namedRight c = eqb (named c .number) (c .number) && eqb (named c .result) (c .result)
 
--- The list without an editor, an item that is no list, an item that is not in use; then each of the tables above.
+-- Each of the tables above, the last first; then the workshop: a list without an editor, an item that is no list, and an item that
+-- is not in use.
 abbrev pub editorSearches : List EditorSearch
 editorSearches =
-    editorSearch workshop 1 20 0
+    editorSearch editorByRole 1 0 2
+    ∷ editorSearch threeEditors 1 0 1
+    ∷ editorSearch twoEditors 1 0 2
+    ∷ editorSearch oneEditor 1 0 3
+    ∷ editorSearch workshop 1 20 0
     ∷ editorSearch workshop 2 13 0
     ∷ editorSearch workshop 5 13 0
-    ∷ editorSearch oneEditor 1 0 3
-    ∷ editorSearch twoEditors 1 0 2
-    ∷ editorSearch threeEditors 1 0 1
-    ∷ editorSearch editorByRole 1 0 2
     ∷ []
