@@ -1,8 +1,7 @@
--- What the contracts of `asking` cite beside the definitions of `model`: counts to which a set is added, and the rows of a list
--- among the lines.
+-- What the contracts of `asking` cite beside the definitions of `model`: the rows of a list among the lines.
 use mathlib.Core.List.{List, [], _∷_}
 use mathlib.Core.Path.{_≡_}
-use Prim.Native.Nat.{ℕ, _+_, _-_, _*_, _/_, _%_, _≤_}
+use Prim.Native.Nat.{ℕ, _+_, _-_, _*_, _≤_}
 use lib.ListN.{length}
 use Rattle.model.specs.Image.{layoutOf, tables, size, lineFormat, widthOf}
 use Rattle.model.specs.Calls.{rowsOf, rowsBefore}
@@ -10,12 +9,6 @@ use Rattle.model.specs.Calls.Ask.{listCount}
 use Rattle.model.specs.Questions.{answer, ask}
 use Rattle.asking.specs.declared.list_rows.ListRows.{ListRows}
 use Rattle.asking.specs.declared.list_rows.ListRows.the-variants.{Rows, Refused}
-
--- The counts with 1 added to the entry of each position that the set p has. The binary digits of p are its positions, the
--- lowest first.
-unfoldable pub counted : ℕ → List ℕ → List ℕ
-counted p [] = []
-counted p (c ∷ cs) = (c + p % 2) ∷ counted (p / 2) cs
 
 -- the lowest key that a line of list a can have
 abbrev pub lowest : ℕ → List ℕ

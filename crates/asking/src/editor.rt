@@ -1,28 +1,14 @@
 // The call that finds the lowest subject that may edit a list.
-ghost use mathlib.Core.Option.{Option·getD};
 ghost use mathlib.Core.Path.{_≡_};
-ghost use Rattle.model.specs.WhoAndWhat.{editList, has};
-ghost use Rattle.model.specs.Image.{itemIn};
-ghost use Rattle.model.specs.Permission.{permissionSet};
-ghost use Rattle.model.specs.Calls.{lowestEditor};
 ghost use Rattle.model.specs.Calls.Ask.{findEditor};
 ghost use Rattle.model.specs.Questions.{ask};
-ghost use Rattle.model.specs.Lent.{tablesAt};
 use acceptance::open;
+use holding::editors::lowest_editor;
 use model::Answer;
 use model::Item;
-use model::ItemRow;
-use model::Layout;
 use model::Opened;
-use model::SET_LINE;
-use model::Subject;
-use model::has;
-use model::needed_position;
 use model::refusal;
-use permission::lines::lines_part;
-use rows::read::item_at;
 use tables::items::is_list;
-use tables::subjects::privileges_of;
 
 // Finds the lowest subject, other than the custodian, that may edit the list without claiming a role. Its number is the
 // result. Where there is none, the call is refused with 20.
@@ -44,35 +30,4 @@ pub fn find_editor(image: &[u8], list: Item) -> Answer
         return Answer::refused(refusal::NO_EDITOR);
     }
     Answer::done(editor)
-}
-
-// The number of the lowest subject, other than the custodian, that may edit the list; or 0, the custodian's number, where
-// there is none. The list's row is read once. The loop goes up from 1 and stops at the first.
-fn lowest_editor(image: &[u8], layout: Layout, list: Item) -> u32
-    ensures { λ r. ⌜ r ≡ Option·getD (lowestEditor (tablesAt layout (image .entry)) (list .0)) 0 ⌝ }
-{
-    let row = item_at(image, layout, list);
-    let table = layout.subjects;
-    let used = table.used;
-    let mut n = 1;
-    while n < used {
-        if may_edit(image, layout, Subject(n), list, row) {
-            return n;
-        }
-        n += 1;
-    }
-    0
-}
-
-// Whether a subject may edit a list without claiming a role. The list's row was read before, and its number is handed over so
-// that the contract can name it. Lines are looked up only if the subject may edit lists at all.
-fn may_edit(image: &[u8], layout: Layout, subject: Subject, list: Item, row: ItemRow) -> bool
-    requires { ⌜ row ≡ itemIn (tablesAt layout image .items) (list .0) ⌝ }
-    ensures { λ r. ⌜ r ≡ has editList (permissionSet (tablesAt layout (image .entry)) (subject .0) 0 (list .0)) ⌝ }
-{
-    let needed = needed_position(SET_LINE);
-    if !has(needed, privileges_of(image, layout, subject)) {
-        return false;
-    }
-    has(needed, lines_part(image, layout, subject, row))
 }

@@ -4,7 +4,7 @@ use Rattle.laws.specs.Answers.{tested-no, tested-yes, asked-no, asked-yes, aske
 use Rattle.laws.specs.Asks.{ask-image, ask-no, ask-done}
 use Rattle.model.specs.Calls.{askResult}
 use Rattle.model.specs.Questions.{askQuestions}
-use Rattle.asking.specs.Editors.{editor-none, editor-there}
+use Rattle.holding.specs.Editors.{editor-none, editor-there}
 use Rattle.asking.proofs.editor.find_editor.Statement.{statement}
 use Rattle.asking.proofs.editor.find_editor.Tie as tie
 

@@ -1,8 +1,8 @@
--- `asking::holders::set_on` meets its contract: without a role, the own row and the lines' part decide.
+-- `holding::counts::set_on` meets its contract: without a role, the own row and the lines' part decide.
 use borrow.Author.Needs.{needs}
 use Rattle.permission.specs.Sets.{set-on-row}
-use Rattle.asking.proofs.holders.set_on.Statement.{statement}
-use Rattle.asking.proofs.holders.set_on.Tie as tie
+use Rattle.holding.proofs.counts.set_on.Statement.{statement}
+use Rattle.holding.proofs.counts.set_on.Tie as tie
 
 permissions-on-requires : tie.Need-permissions-on-requires
 permissions-on-requires c κs = search needs

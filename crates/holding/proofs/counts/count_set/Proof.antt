@@ -1,11 +1,11 @@
--- `asking::holders::count_set` meets its contract: each turn adds the lowest digit of what is left of the set to one more count.
+-- `holding::counts::count_set` meets its contract: each turn adds the lowest digit of what is left of the set to one more count.
 use Prim.Native.Nat.{_-_}
 use lib.ListN.{length}
 use native.Mathlib.Omega.{arith}
 use borrow.Author.Needs.{needs}
-use Rattle.asking.specs.Counting.{set-less, Added, added-none, added-fits, added-one, added-early, added-all, added-length}
-use Rattle.asking.proofs.holders.count_set.Statement.{statement}
-use Rattle.asking.proofs.holders.count_set.Tie as tie
+use Rattle.holding.specs.Counting.{set-less, Added, added-none, added-fits, added-one, added-early, added-all, added-length}
+use Rattle.holding.proofs.counts.count_set.Statement.{statement}
+use Rattle.holding.proofs.counts.count_set.Tie as tie
 
 abbrev Inv-loop : tie.InvT-loop
 Inv-loop set counts₀ rest₀ position₀ counts rest position = Added set counts₀ position rest counts

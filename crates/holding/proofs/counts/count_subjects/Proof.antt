@@ -1,13 +1,13 @@
--- `asking::holders::count_subjects` meets its contract: in each turn of the loop, the subjects before this one are counted.
+-- `holding::counts::count_subjects` meets its contract: in each turn of the loop, the subjects before this one are counted.
 use Prim.Native.Nat.{_-_}
 use lib.ListN.{length}
 use native.Mathlib.Omega.{arith}
 use borrow.Author.Needs.{needs}
 use Rattle.model.specs.Image.{tablesBy}
-use Rattle.asking.specs.Editors.{subjects-used}
-use Rattle.asking.specs.Counting.{Tally, tally-none, tally-fits, tally-one, tally-length, tally-all}
-use Rattle.asking.proofs.holders.count_subjects.Statement.{statement}
-use Rattle.asking.proofs.holders.count_subjects.Tie as tie
+use Rattle.holding.specs.Editors.{subjects-used}
+use Rattle.holding.specs.Counting.{Tally, tally-none, tally-fits, tally-one, tally-length, tally-all}
+use Rattle.holding.proofs.counts.count_subjects.Statement.{statement}
+use Rattle.holding.proofs.counts.count_subjects.Tie as tie
 
 abbrev Inv-loop : tie.InvT-loop
 Inv-loop image layout item counts₀ row used subject₀ counts subject =

@@ -1,11 +1,11 @@
--- `asking::editor::lowest_editor` meets its contract: in each turn of the loop, no subject that was passed is an editor.
+-- `holding::editors::lowest_editor` meets its contract: in each turn of the loop, no subject that was passed is an editor.
 use Prim.Native.Nat.{_-_}
 use native.Mathlib.Omega.{arith}
 use borrow.Author.Needs.{needs}
 use Rattle.model.specs.Image.{tablesBy}
-use Rattle.asking.specs.Editors.{Tried, tried-none, tried-here, tried-next, tried-all, subjects-used}
-use Rattle.asking.proofs.editor.lowest_editor.Statement.{statement}
-use Rattle.asking.proofs.editor.lowest_editor.Tie as tie
+use Rattle.holding.specs.Editors.{Tried, tried-none, tried-here, tried-next, tried-all, subjects-used}
+use Rattle.holding.proofs.editors.lowest_editor.Statement.{statement}
+use Rattle.holding.proofs.editors.lowest_editor.Tie as tie
 
 abbrev Inv-loop : tie.InvT-loop
 Inv-loop image layout list row used n₀ n = Tried (tablesBy layout image) (list .0) n

@@ -1,8 +1,8 @@
--- `asking::editor::may_edit` meets its contract: first the subject's own row, then the lines.
+-- `holding::editors::may_edit` meets its contract: first the subject's own row, then the lines.
 use borrow.Author.Needs.{needs}
-use Rattle.asking.specs.Editors.{edit-no, edit-by-lines}
-use Rattle.asking.proofs.editor.may_edit.Statement.{statement}
-use Rattle.asking.proofs.editor.may_edit.Tie as tie
+use Rattle.holding.specs.Editors.{edit-no, edit-by-lines}
+use Rattle.holding.proofs.editors.may_edit.Statement.{statement}
+use Rattle.holding.proofs.editors.may_edit.Tie as tie
 
 needed-position-requires : tie.Need-needed-position-requires
 needed-position-requires c κs = search needs

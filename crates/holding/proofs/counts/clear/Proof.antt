@@ -1,11 +1,11 @@
--- `asking::holders::clear` meets its contract: each turn overwrites one more count by 0.
+-- `holding::counts::clear` meets its contract: each turn overwrites one more count by 0.
 use Prim.Native.Nat.{_-_}
 use lib.ListN.{length}
 use native.Mathlib.Omega.{arith}
 use borrow.Author.Needs.{needs}
-use Rattle.asking.specs.Counting.{set-less, Cleared, cleared-none, cleared-one, overwritten-length, overwritten-all}
-use Rattle.asking.proofs.holders.clear.Statement.{statement}
-use Rattle.asking.proofs.holders.clear.Tie as tie
+use Rattle.holding.specs.Counting.{set-less, Cleared, cleared-none, cleared-one, overwritten-length, overwritten-all}
+use Rattle.holding.proofs.counts.clear.Statement.{statement}
+use Rattle.holding.proofs.counts.clear.Tie as tie
 
 abbrev Inv-loop : tie.InvT-loop
 Inv-loop counts₀ n₀ counts n = Cleared counts₀ n counts
