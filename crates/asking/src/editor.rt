@@ -3,6 +3,7 @@ ghost use mathlib.Core.Path.{_≡_};
 ghost use Rattle.model.specs.Calls.Ask.{findEditor};
 ghost use Rattle.model.specs.Questions.{ask};
 use acceptance::open;
+use holding::editors::SoughtEditor;
 use holding::editors::lowest_editor;
 use model::Answer;
 use model::Item;
@@ -25,9 +26,9 @@ pub fn find_editor(image: &[u8], list: Item) -> Answer
     if !is_list(image, layout, list) {
         return Answer::refused(refusal::NOT_A_LIST);
     }
-    let editor = lowest_editor(image, layout, list);
-    if editor == 0 {
-        return Answer::refused(refusal::NO_EDITOR);
+    let sought = lowest_editor(image, layout, list);
+    match sought {
+        SoughtEditor::Editor(editor) => Answer::done(editor.0),
+        SoughtEditor::Nobody => Answer::refused(refusal::NO_EDITOR),
     }
-    Answer::done(editor)
 }

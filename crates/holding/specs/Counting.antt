@@ -21,7 +21,7 @@ use Rattle.model.specs.Calls.{holders, holderCounts}
 use Rattle.laws.specs.Tests.{All-at}
 use Rattle.laws.specs.Counts.{how-many-most, each-count, each-same, each-all, each-zero}
 use Rattle.laws.specs.Sets.{lowest-away}
-use Rattle.holding.specs.Counted.{counted}
+use Rattle.holding.specs.Found.{counted}
 
 -- every turn of the loops over counts leaves fewer entries to do
 pub set-less : (cs : List ℕ) (n v : ℕ) → n < length cs → length (set cs n v) - (n + 1) < length cs - n

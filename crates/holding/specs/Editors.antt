@@ -2,24 +2,28 @@
 use mathlib.Core.Bool.{Bool, true, false, not, _&&_}
 use mathlib.Core.List.{List}
 use mathlib.Core.Logic.{inl, inr}
-use mathlib.Core.Option.{Option, none, some, Option·getD}
-use mathlib.Core.Path.{_≡_, refl, sym, ap, _∙_}
+use mathlib.Core.Option.{none, some, Option·getD}
+use mathlib.Core.Path.{_≡_, sym, ap, _∙_}
 use Prim.Native.Nat.{ℕ, _+_, _<_, _≤_}
 use native.Mathlib.Omega.{arith}
 use borrow.Author.Tests.{ne-eqb, eq-eqb, not-true, not-false}
 use lib.ListN.{length}
 use Rattle.model.specs.declared.ItemRow.{ItemRow}
 use Rattle.model.specs.declared.Layout.{Layout}
+use Rattle.model.specs.declared.Subject.{Subject}
 use Rattle.model.specs.Lists.{isThere}
 use Rattle.model.specs.WhoAndWhat.{editList, has}
 use Rattle.model.specs.Image.{Tables, widthOf, subjectFormat, tablesBy, privilegesIn, itemIn}
 use Rattle.model.specs.Permission.{partOn, permissionSet}
 use Rattle.model.specs.Calls.{isEditor, lowestEditor}
 use Rattle.laws.specs.Tests.{lt-eq-gt}
-use Rattle.laws.specs.Counts.{Least, none-lowest, lowest-some, some-lowest}
+use Rattle.laws.specs.Counts.{none-lowest, some-lowest}
 use Rattle.laws.specs.Sets.{has-and}
 use Rattle.laws.specs.Rows.{rows-count}
 use Rattle.permission.specs.Sets.{set-shared}
+use Rattle.holding.specs.declared.editors.SoughtEditor.{SoughtEditor}
+use Rattle.holding.specs.declared.editors.SoughtEditor.the-variants.{Editor, Nobody}
+use Rattle.holding.specs.Found.{foundEditor}
 
 module _ (t : Tables) (a : ℕ) where
   -- no subject below n is an editor
@@ -41,12 +45,12 @@ module _ (t : Tables) (a : ℕ) where
           let other : n ≡ 0 → ⊥ = λ z. omega (arith, tried .after-custodian) in
           rw (ne-eqb n 0 other) (sym asked)
 
-      pub tried-here : b ≡ true → n ≡ Option·getD (lowestEditor t a) 0
+      pub tried-here : b ≡ true → some n ≡ lowestEditor t a
       unfolding lowestEditor
       tried-here e =
-          let least : Least (isEditor t a) (length (t .subjects)) n =
-          record { below = omega arith; passes = looked ∙ e; no-lower = tried .passed } in
-          rw (some-lowest (isEditor t a) (length (t .subjects)) n least)
+          sym
+          (some-lowest (isEditor t a) (length (t .subjects)) n
+          (record { below = omega arith; passes = looked ∙ e; no-lower = tried .passed }))
 
       pub tried-next : b ≡ false → Tried (n + 1)
       tried-next e = record { after-custodian = omega arith; passed = further }
@@ -59,28 +63,21 @@ module _ (t : Tables) (a : ℕ) where
                 | inr (inr high) ↦ absurd (omega arith)
               ]
 
-    pub tried-all : u ≤ n → 0 ≡ Option·getD (lowestEditor t a) 0
+    pub tried-all : u ≤ n → none ≡ lowestEditor t a
     unfolding lowestEditor
-    tried-all h = rw (none-lowest (isEditor t a) (length (t .subjects)) (λ s l. tried .passed s (omega arith)))
+    tried-all h = sym (none-lowest (isEditor t a) (length (t .subjects)) (λ s l. tried .passed s (omega arith)))
 
-  -- 0 stands for nobody: the custodian is never an editor
-  module _ (e : ℕ) (found : e ≡ Option·getD (lowestEditor t a) 0) where
-    pub editor-none : e ≡ 0 → isThere (lowestEditor t a) ≡ false
-    unfolding lowestEditor
-    editor-none z = go (lowestEditor t a) refl (sym found ∙ z)
-      where
-        go : (o : Option ℕ) → lowestEditor t a ≡ o → Option·getD o 0 ≡ 0 → isThere o ≡ false
-        go none is f = refl
-        go (some s) is f =
-            let passes : isEditor t a s ≡ true = lowest-some (isEditor t a) (length (t .subjects)) s is .passes in
-            sym (rw (eq-eqb s 0 f) at passes)
+  -- question 20 and the result, by what the search answered
+  module _ (x : SoughtEditor) (found : foundEditor x ≡ lowestEditor t a) where
+    pub editor-none : x ≡ Nobody → isThere (lowestEditor t a) ≡ false
+    editor-none is = rw (← found, is)
 
-    pub editor-there : (e ≡ 0 → ⊥) → isThere (lowestEditor t a) ≡ true
-    editor-there d = go (lowestEditor t a) (λ z. d (found ∙ z))
-      where
-        go : (o : Option ℕ) → (Option·getD o 0 ≡ 0 → ⊥) → isThere o ≡ true
-        go none f = absurd (f refl)
-        go (some s) f = refl
+    module _ (s : Subject) (is : x ≡ Editor s) where
+      pub editor-there : isThere (lowestEditor t a) ≡ true
+      editor-there = rw (← found, is)
+
+      pub editor-named : s .0 ≡ Option·getD (lowestEditor t a) 0
+      editor-named = rw (← found, is)
 
 -- the subjects' table has as many rows as the layout says are in use
 pub subjects-used : (lay : Layout) (img : List ℕ) → lay .subjects .used ≡ length (tablesBy lay img .subjects)

@@ -1,4 +1,4 @@
--- First what a contract cites beside the definitions of `model`; then laws, in the form that the proofs of the code use.
-pub mod Counted
+-- First what the contracts cite beside the definitions of `model`; then laws, in the form that the proofs of the code use.
+pub mod Found
 pub mod Counting
 pub mod Editors

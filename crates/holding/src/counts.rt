@@ -7,7 +7,7 @@ ghost use Rattle.model.specs.Image.{itemIn};
 ghost use Rattle.model.specs.Permission.{permissionSet};
 ghost use Rattle.model.specs.Calls.{holderCounts};
 ghost use Rattle.model.specs.Lent.{tablesAt};
-ghost use Rattle.holding.specs.Counted.{counted};
+ghost use Rattle.holding.specs.Found.{counted};
 use model::Item;
 use model::ItemRow;
 use model::Layout;

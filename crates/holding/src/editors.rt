@@ -1,11 +1,11 @@
 // The lowest subject that may edit a list.
-ghost use mathlib.Core.Option.{Option·getD};
 ghost use mathlib.Core.Path.{_≡_};
 ghost use Rattle.model.specs.WhoAndWhat.{editList, has};
 ghost use Rattle.model.specs.Image.{itemIn};
 ghost use Rattle.model.specs.Permission.{permissionSet};
 ghost use Rattle.model.specs.Calls.{lowestEditor};
 ghost use Rattle.model.specs.Lent.{tablesAt};
+ghost use Rattle.holding.specs.Found.{foundEditor};
 use model::Item;
 use model::ItemRow;
 use model::Layout;
@@ -17,10 +17,16 @@ use permission::lines::lines_part;
 use rows::read::item_at;
 use tables::subjects::privileges_of;
 
-// The number of the lowest subject, other than the custodian, that may edit the list; or 0, the custodian's number, where
-// there is none. The list's row is read once. The loop goes up from 1 and stops at the first.
-pub fn lowest_editor(image: &[u8], layout: Layout, list: Item) -> u32
-    ensures { λ r. ⌜ r ≡ Option·getD (lowestEditor (tablesAt layout (image .entry)) (list .0)) 0 ⌝ }
+// Whom a search for an editor finds.
+pub enum SoughtEditor {
+    Editor(Subject),
+    Nobody,
+}
+
+// The lowest subject, other than the custodian, that may edit the list. The list's row is read once. The loop goes up from 1
+// and stops at the first.
+pub fn lowest_editor(image: &[u8], layout: Layout, list: Item) -> SoughtEditor
+    ensures { λ r. ⌜ foundEditor r ≡ lowestEditor (tablesAt layout (image .entry)) (list .0) ⌝ }
 {
     let row = item_at(image, layout, list);
     let table = layout.subjects;
@@ -28,11 +34,11 @@ pub fn lowest_editor(image: &[u8], layout: Layout, list: Item) -> u32
     let mut n = 1;
     while n < used {
         if may_edit(image, layout, Subject(n), list, row) {
-            return n;
+            return SoughtEditor::Editor(Subject(n));
         }
         n += 1;
     }
-    0
+    SoughtEditor::Nobody
 }
 
 // Whether a subject may edit a list without claiming a role. The list's row was read before, and its number is handed over so

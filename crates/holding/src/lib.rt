@@ -1,3 +1,3 @@
-// Who holds privileges on an item without a role. One subject after the other is asked for. No function checks the image.
+// What all subjects hold on one item without a role. They are taken one after the other. No function checks the image.
 pub mod counts;
 pub mod editors;

@@ -4,7 +4,7 @@ use Rattle.laws.specs.Answers.{tested-no, tested-yes, asked-no, asked-yes, aske
 use Rattle.laws.specs.Asks.{ask-image, ask-no, ask-done}
 use Rattle.model.specs.Calls.{askResult}
 use Rattle.model.specs.Questions.{askQuestions}
-use Rattle.holding.specs.Editors.{editor-none, editor-there}
+use Rattle.holding.specs.Editors.{editor-none, editor-there, editor-named}
 use Rattle.asking.proofs.editor.find_editor.Statement.{statement}
 use Rattle.asking.proofs.editor.find_editor.Tie as tie
 
@@ -36,19 +36,25 @@ returns-2 c = search (ask-no, asked-no)
 lowest-editor-requires : tie.Need-lowest-editor-requires
 lowest-editor-requires c κs = search needs
 
-refused-requires-3 : tie.Need-refused-requires-3
-refused-requires-3 c κs = search needs
-
-returns-3 : tie.Need-returns-3
-unfolding askQuestions
-returns-3 c = search (ask-no, asked-yes, tested-no, editor-none)
+enum-known-sought : tie.Need-enum-known-sought
+enum-known-sought c = search needs
 
 done-requires : tie.Need-done-requires
 done-requires c κs = search needs
 
-returns-4 : tie.Need-returns-4
+enum-told : tie.Need-enum-told
+enum-told c = search needs
+
+refused-requires-3 : tie.Need-refused-requires-3
+refused-requires-3 c κs = search needs
+
+returns-3 : tie.Need-returns-3
 unfolding askQuestions askResult
-returns-4 c = search (ask-done, asked-yes, tested-yes, asked-all, editor-there)
+returns-3 c = search (ask-done, asked-yes, tested-yes, asked-all, editor-there, editor-named)
+
+returns-4 : tie.Need-returns-4
+unfolding askQuestions
+returns-4 c = search (ask-no, asked-yes, tested-no, editor-none)
 
 pub find-editor-spec : {M : Type 1} → statement M
 find-editor-spec =
@@ -63,7 +69,9 @@ find-editor-spec =
     refused-requires-2
     returns-2
     lowest-editor-requires
+    enum-known-sought
+    done-requires
+    enum-told
     refused-requires-3
     returns-3
-    done-requires
     returns-4)
