@@ -6,3 +6,4 @@ pub mod holders;
 pub mod lines;
 mod list_rows;
 pub mod sets;
+pub mod steps;

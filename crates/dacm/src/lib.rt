@@ -2,7 +2,7 @@
 // arguments to the call of the same meaning and has that call's contract. An `Answer` is number 0 and the call's result, or
 // the refusal and result 0.
 ghost use mathlib.Core.Path.{_≡_};
-ghost use Rattle.model.specs.Calls.Ask.{checkImage, operationSetOf, permissionSetOf, listCount, findEditor};
+ghost use Rattle.model.specs.Calls.Ask.{checkImage, operationSetOf, permissionSetOf, listCount, findEditor, countSteps};
 ghost use Rattle.model.specs.Calls.Change.{defineSubject, setGrant, removeGrant, setLine, removeLine, createItem, bind, handOver};
 ghost use Rattle.model.specs.Questions.{ask, explain, countHolders, act, listStart};
 use model::Answer;
@@ -90,6 +90,15 @@ pub extern "C" fn dacm_find_editor(image: &[u8], list: Item) -> Answer
     ensures { λ r. ⌜ r ≡ ask (now (image .entry)) (findEditor (list .0)) ⌝ }
 {
     asking::editor::find_editor(image, list)
+}
+
+// Counts the steps from a subject up to the root of a tree, from each subject to its parent. The result is 0 for the root
+// itself, and 4294967295 for a subject that is outside the tree.
+#[no_mangle]
+pub extern "C" fn dacm_steps_up(image: &[u8], subject: Subject, root: Subject) -> Answer
+    ensures { λ r. ⌜ r ≡ ask (now (image .entry)) (countSteps (subject .0) (root .0)) ⌝ }
+{
+    asking::steps::steps_up(image, subject, root)
 }
 
 // Defines a subject below a parent. The result is its number. From the custodian it gets all privileges that the call

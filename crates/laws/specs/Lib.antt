@@ -7,6 +7,7 @@ pub mod KeyOrder
 pub mod Sorted
 pub mod Sets
 pub mod Tree
+pub mod Steps
 pub mod Numbered
 pub mod WellFormed
 pub mod Answers
@@ -33,5 +34,7 @@ pub mod Named
 pub mod Standing
 pub mod Nearest
 pub mod Reasons
+-- Then steps, which the call and an explanation answer.
+pub mod HowFar
 -- Last what document 02, P4, changes of equation 8 as printed.
 pub mod Amended

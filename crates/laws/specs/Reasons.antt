@@ -159,18 +159,18 @@ module _ (img : List ℕ) (s r i : ℕ) where
       ]
 
   module _ (done : explain img s r i .number ≡ 0) where
-    none-refused : refusal ≡ 0
+    pub not-refused : refusal ≡ 0
     unfolding explain
-    none-refused =
+    not-refused =
         elim (eq-or-ne refusal 0) [ inl e ↦ e | inr refused ↦ absurd (refused (rw (ne-eqb refusal 0 refused) at done)) ]
 
-    is-explanation : explain img s r i ≡ explanation (tables img) s r i
+    pub is-explanation : explain img s r i ≡ explanation (tables img) s r i
     unfolding explain
-    is-explanation = rw none-refused
+    is-explanation = rw not-refused
 
     lines-hold : T (linesHold (tables img))
     unfolding imageQuestions
-    lines-hold = image-passed img (call-checked img (explainQuestions (tables img) s i) none-refused) .1 .1 .1 .1 .0
+    lines-hold = image-passed img (call-checked img (explainQuestions (tables img) s i) not-refused) .1 .1 .1 .1 .0
 
     abbrev row : ItemRow
     row = itemIn (tables img .items) i

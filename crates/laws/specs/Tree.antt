@@ -1,56 +1,78 @@
--- Laws of climbing, for any step `up`: being in a tree, and the group search. A climb from s gives the same for every number of
--- allowed steps that is at least s. So both have an equation that does not count steps. And both use `up` only at s and at
+-- Laws of climbing, for any step `up`: the steps up, being in a tree, and the group search. A climb from s gives the same for every
+-- number of allowed steps that is at least s. So each has an equation without that number. And each uses `up` only at s and at
 -- lower numbers.
-use mathlib.Core.Bool.{false, _&&_, _||_, not, cond, or-false}
+use mathlib.Core.Bool.{Bool, true, false, _&&_, _||_, not, cond}
 use mathlib.Core.List.{List}
 use mathlib.Core.Logic.{_⊎_, inl, inr}
-use mathlib.Core.Option.{none}
-use mathlib.Core.Path.{_≡_, refl, sym, _∙_}
+use mathlib.Core.Option.{Option, none, some, Option·map}
+use mathlib.Core.Path.{_≡_, refl, ap, _∙_}
 use Prim.Native.Nat.{ℕ, zero, suc, _<_, _≤_}
 use native.Mathlib.Omega.{arith}
 use borrow.Author.Tests.{ltb-true, le-ltb, ne-eqb}
 use lib.Dec.{T, eqb, ltb, eqb→eq, eqb-refl, ltb→lt, lt→ltb, T-not, not-T}
 use Rattle.model.specs.declared.LineRow.{LineRow}
-use Rattle.model.specs.Lists.{orElse}
-use Rattle.model.specs.Tree.{climbs, inTree, below}
+use Rattle.model.specs.Lists.{orElse, isThere}
+use Rattle.model.specs.Tree.{stepsWithin, stepsUp, inTree, below}
 use Rattle.model.specs.Permission.{lineIn, groupWithin, groupLine}
 use Rattle.model.specs.Image.{groupKind}
 use Rattle.laws.specs.Tests.{and-i, and-l, and-r, or-l, or-r, or-cases, two, le-or-lt, eq-or-ne}
 
 module _ (up : ℕ → ℕ) where
-  -- The tree of h.
+  -- The steps up to h, and the tree of h.
 
-  pub climbs-enough : (h m n s : ℕ) → s ≤ m → s ≤ n → climbs m up h s ≡ climbs n up h s
-  unfolding climbs
-  climbs-enough h zero zero s a b = refl
-  climbs-enough h zero (suc n) s a b = rw (le-ltb (up s) s (omega arith)) (sym (or-false (eqb s h)))
-  climbs-enough h (suc m) zero s a b = rw (le-ltb (up s) s (omega arith)) (or-false (eqb s h))
-  climbs-enough h (suc m) (suc n) s a b =
+  pub steps-enough : (h m n s : ℕ) → s ≤ m → s ≤ n → stepsWithin m up s h ≡ stepsWithin n up s h
+  unfolding stepsWithin
+  steps-enough h zero zero s a b = refl
+  steps-enough h zero (suc n) s a b = rw (le-ltb (up s) s (omega arith))
+  steps-enough h (suc m) zero s a b = rw (le-ltb (up s) s (omega arith))
+  steps-enough h (suc m) (suc n) s a b =
       elim (two (ltb (up s) s)) [
-        | inl e ↦ rw (climbs-enough h m n (up s) (omega (arith, ltb-true (up s) s e)) (omega (arith, ltb-true (up s) s e)))
+        | inl e ↦ rw (steps-enough h m n (up s) (omega (arith, ltb-true (up s) s e)) (omega (arith, ltb-true (up s) s e)))
         | inr e ↦ rw e
       ]
+
+  pub steps-up : (h s : ℕ) → stepsUp up s h ≡ cond (eqb s h) (some 0) (cond (ltb (up s) s) (Option·map suc (stepsUp up (up s) h)) none)
+  unfolding stepsWithin stepsUp
+  steps-up h s =
+      steps-enough h s (suc s) s (omega arith) (omega arith)
+      ∙ elim (two (ltb (up s) s)) [
+        | inl e ↦ rw (steps-enough h s (up s) (up s) (omega (arith, ltb-true (up s) s e)) (omega arith))
+        | inr e ↦ rw e
+      ]
+
+  -- being in the tree is one reading of the steps
+  pub steps-inside : (h s n : ℕ) → stepsUp up s h ≡ some n → inTree up h s ≡ true
+  unfolding inTree
+  steps-inside h s n e = rw e
+
+  pub steps-outside : (h s : ℕ) → stepsUp up s h ≡ none → inTree up h s ≡ false
+  unfolding inTree
+  steps-outside h s e = rw e
 
   pub tree-up : (h s : ℕ) → inTree up h s ≡ (eqb s h || (ltb (up s) s && inTree up h (up s)))
-  unfolding climbs inTree
-  tree-up h s =
-      climbs-enough h s (suc s) s (omega arith) (omega arith)
-      ∙ elim (two (ltb (up s) s)) [
-        | inl e ↦ rw (climbs-enough h s (up s) (up s) (omega (arith, ltb-true (up s) s e)) (omega arith))
-        | inr e ↦ rw e
-      ]
-
-  climbs-below : (h n s : ℕ) → s < h → climbs n up h s ≡ false
-  unfolding climbs
-  climbs-below h zero s l = ne-eqb s h (omega arith)
-  climbs-below h (suc n) s l =
-      rw (ne-eqb s h (omega arith))
-      (elim (two (ltb (up s) s)) [ inl e ↦ rw e (climbs-below h n (up s) (omega (arith, ltb-true (up s) s e))) | inr e ↦ rw e ])
-
-  -- the tree of h has no number lower than h
-  pub tree-below : (h s : ℕ) → s < h → inTree up h s ≡ false
   unfolding inTree
-  tree-below h s l = climbs-below h s s l
+  tree-up h s = ap isThere (steps-up h s) ∙ go (eqb s h) (ltb (up s) s) (stepsUp up (up s) h)
+    where
+      go : (b c : Bool) (o : Option ℕ) → isThere (cond b (some 0) (cond c (Option·map suc o) none)) ≡ (b || (c && isThere o))
+      go true c o = refl
+      go false true (some n) = refl
+      go false true none = refl
+      go false false o = refl
+
+  steps-within-below : (h n s : ℕ) → s < h → stepsWithin n up s h ≡ none
+  unfolding stepsWithin
+  steps-within-below h zero s l = rw (ne-eqb s h (omega arith))
+  steps-within-below h (suc n) s l =
+      rw (ne-eqb s h (omega arith))
+      (elim (two (ltb (up s) s)) [ inl e ↦ rw (e, steps-within-below h n (up s) (omega (arith, ltb-true (up s) s e))) | inr e ↦ rw e ])
+
+  -- no steps lead to a higher number, so the tree of h has no number lower than h
+  pub steps-below : (h s : ℕ) → s < h → stepsUp up s h ≡ none
+  unfolding stepsUp
+  steps-below h s l = steps-within-below h s s l
+
+  pub tree-below : (h s : ℕ) → s < h → inTree up h s ≡ false
+  tree-below h s l = steps-outside h s (steps-below h s l)
 
   -- Who is below whom. One step up from s is the parent; whoever else is above s is above the parent.
 
@@ -110,16 +132,20 @@ module _ (up : ℕ → ℕ) where
 
 -- Two steps that agree below n give the same for every climb from below n.
 module _ (up vp : ℕ → ℕ) (n : ℕ) (agree : (s : ℕ) → s < n → up s ≡ vp s) where
-  climbs-same : (h m s : ℕ) → s < n → climbs m up h s ≡ climbs m vp h s
-  unfolding climbs
-  climbs-same h zero s l = refl
-  climbs-same h (suc m) s l =
+  steps-within-same : (h m s : ℕ) → s < n → stepsWithin m up s h ≡ stepsWithin m vp s h
+  unfolding stepsWithin
+  steps-within-same h zero s l = refl
+  steps-within-same h (suc m) s l =
       rw (agree s l)
-      (elim (two (ltb (vp s) s)) [ inl e ↦ rw (climbs-same h m (vp s) (omega (arith, ltb-true (vp s) s e))) | inr e ↦ rw e ])
+      (elim (two (ltb (vp s) s)) [ inl e ↦ rw (steps-within-same h m (vp s) (omega (arith, ltb-true (vp s) s e))) | inr e ↦ rw e ])
+
+  pub steps-same : (h s : ℕ) → s < n → stepsUp up s h ≡ stepsUp vp s h
+  unfolding stepsUp
+  steps-same h s l = steps-within-same h s s l
 
   pub tree-same : (h s : ℕ) → s < n → inTree up h s ≡ inTree vp h s
   unfolding inTree
-  tree-same h s l = climbs-same h s s l
+  tree-same h s l = ap isThere (steps-same h s l)
 
   -- the group search, in lists of lines that agree on list a
   module _ (lines more : List LineRow) (a : ℕ) (lines-agree : (k s : ℕ) → lineIn lines a k s ≡ lineIn more a k s) where

@@ -12,9 +12,10 @@ use Rattle.model.specs.declared.LineRow.{LineRow}
 use Rattle.model.specs.declared.ItemRow.{ItemRow}
 use Rattle.model.specs.Lists.{howMany, ofEach, lowestPassing, select, All}
 use Rattle.model.specs.Sorted.{put, cut}
+use Rattle.model.specs.Tree.{stepsUp, stepsNumber}
 use Rattle.model.specs.WhoAndWhat.{custodian, editList, has, _∩_}
 use Rattle.model.specs.Image.{Tables, subjectRow, grantRow, lineRow, itemRow, withList}
-use Rattle.model.specs.Image.{withOwner, grantKey, lineKey, privilegesIn, itemIn}
+use Rattle.model.specs.Image.{withOwner, grantKey, lineKey, parentIn, privilegesIn, itemIn}
 use Rattle.model.specs.Permission.{operationSet, permissionSet}
 
 -- The calls that only ask and whose result is one number.
@@ -24,6 +25,7 @@ pub data Ask : Type 0 where
   permissionSetOf : (subject role item : ℕ) → Ask
   listCount : (list : ℕ) → Ask
   findEditor : (list : ℕ) → Ask
+  countSteps : (subject root : ℕ) → Ask
 
 -- The calls that write the image.
 pub data Change : Type 0 where
@@ -103,6 +105,7 @@ askResult t (operationSetOf s r) = operationSet t s r
 askResult t (permissionSetOf s r i) = permissionSet t s r i
 askResult t (listCount a) = length (rowsOf a (t .lines))
 askResult t (findEditor a) = Option·getD (lowestEditor t a) 0
+askResult t (countSteps s h) = stepsNumber (stepsUp (parentIn (t .subjects)) s h)
 
 -- The tables with the rows of one of them replaced and all else kept.
 

@@ -2,7 +2,7 @@
 -- proved by computation says `unfolding computing`.
 use Rattle.model.specs.Lists.{howMany, ofEach, lowestPassing}
 use Rattle.model.specs.Sorted.{ascending, search, put, cut}
-use Rattle.model.specs.Tree.{climbs, inTree}
+use Rattle.model.specs.Tree.{stepsWithin, stepsUp, inTree}
 use Rattle.model.specs.WhoAndWhat.{has}
 use Rattle.model.specs.Image.{fieldAt, layoutOf, rowsIn, tablesBy, blockOf, encode, subjectsHold, itemsHold, linesHold, grantsHold}
 use Rattle.model.specs.Image.{headerRules, tableRules, layoutRules, unusedRules}
@@ -13,7 +13,7 @@ use Rattle.model.specs.Questions.{firstNo, imageQuestions, askQuestions,
 use Rattle.model.specs.Questions.{check, ask, explain, countHolders, act}
 
 unfoldable pub computing : Unit {0}
-unfolding howMany ofEach lowestPassing ascending search put cut climbs inTree has
+unfolding howMany ofEach lowestPassing ascending search put cut stepsWithin stepsUp inTree has
     fieldAt layoutOf rowsIn tablesBy blockOf encode
     subjectsHold itemsHold linesHold grantsHold headerRules tableRules layoutRules unusedRules
     groupWithin groupLine groupRule ownRule ownerRule decidingRule everyoneSet partOn

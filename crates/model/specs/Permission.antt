@@ -14,7 +14,7 @@ use Rattle.model.specs.declared.SoughtGrant.{SoughtGrant}
 use Rattle.model.specs.declared.SoughtGrant.the-variants.{Grant, NoGrant}
 use Rattle.model.specs.Lists.{orElse}
 use Rattle.model.specs.Sorted.{find}
-use Rattle.model.specs.Tree.{inTree}
+use Rattle.model.specs.Tree.{stepsUp, inTree, stepsNumber}
 use Rattle.model.specs.WhoAndWhat.{custodian, everything, _∪_, _∩_}
 use Rattle.model.specs.Image.{Tables, widthIn, itselfKind, groupKind, ownerKind, everyoneKind}
 use Rattle.model.specs.Image.{grantKey, lineKey, parentIn, privilegesIn, itemIn}
@@ -124,6 +124,11 @@ abbrev pub lentOperations : Tables → Option GrantRow → ℕ
 lentOperations t none = 0
 lentOperations t (some g) = g .privileges ∩ privilegesIn (t .subjects) (g .grantor .0)
 
+-- The steps from the owner of an item whose row is x up to the domain of a grant; none without a grant.
+abbrev pub domainSteps : Tables → Option GrantRow → ItemRow → Option ℕ
+domainSteps t none x = none
+domainSteps t (some g) x = stepsUp (parentIn (t .subjects)) (x .owner .0) (g .domain .0)
+
 -- What a grant adds to the object set on an item whose row is x. If the item's owner is in the tree of the grant's domain, it
 -- adds those of its privileges that the grantor's lines' part on the item has too. Otherwise it adds nothing.
 abbrev pub lentOn : Tables → Option GrantRow → ItemRow → ℕ
@@ -150,8 +155,8 @@ operationSet t s r = operationUnder t s (grantOf t s r)
 abbrev pub permissionSet : Tables → ℕ → ℕ → ℕ → ℕ
 permissionSet t s r i = permissionUnder t s (grantOf t s r) i
 
--- The explanation of the permission set (document 02, P1): the deciding rule, the sets that are put together, and the operation
--- set, which cuts them. First on an item whose row is x and under a grant that may be missing, then on item i, then under the
+-- The explanation of the permission set (document 02, P1): the deciding rule, the sets that are put together, the operation set,
+-- which cuts them, and the steps from the item's owner up to the grant's domain (P6). First on an item whose row is x and under a grant that may be missing, then on item i, then under the
 -- role that s claims.
 
 abbrev pub explanationOn : Tables → ℕ → Option GrantRow → ItemRow → Explanation
@@ -164,6 +169,7 @@ explanationOn t s g x =
       «everyone_set» = everyoneOn t s x;
       «role_set» = lentOn t g x;
       operations = operationUnder t s g;
+      steps = stepsNumber (domainSteps t g x);
     }
 
 unfoldable pub explanationUnder : Tables → ℕ → Option GrantRow → ℕ → Explanation

@@ -1,6 +1,6 @@
 -- Document 01, "The sample workshop": the tables, and the twelve sets that are proved. Then the explanation of each of them
--- (document 02, P1), how many subjects hold each position (P2), owners without an owner line (P4), and whom the editor search
--- names (P5).
+-- (document 02, P1), how many subjects hold each position (P2), owners without an owner line (P4), whom the editor search names
+-- (P5), and how many steps lead up from one subject to another (P6).
 use mathlib.Core.Bool.{Bool, _&&_}
 use mathlib.Core.List.{List, [], _∷_}
 use Prim.Native.Nat.{ℕ}
@@ -8,11 +8,12 @@ use lib.Dec.{eqb}
 use lib.ListN.{replicate}
 use Rattle.model.specs.declared.Answer.{Answer}
 use Rattle.model.specs.declared.Explanation.{Explanation}
+use Rattle.model.specs.Tree.{outside}
 use Rattle.model.specs.WhoAndWhat.{everything}
 use Rattle.model.specs.Image.{Tables, encode, subjectRow, grantRow, lineRow, itemRow}
 use Rattle.model.specs.Image.{itselfKind, groupKind, ownerKind, everyoneKind}
 use Rattle.model.specs.Calls.{after}
-use Rattle.model.specs.Calls.Ask.{permissionSetOf, findEditor}
+use Rattle.model.specs.Calls.Ask.{permissionSetOf, findEditor, countSteps}
 use Rattle.model.specs.Calls.Change.{setGrant, setLine, removeLine, handOver}
 use Rattle.model.specs.Questions.{answer, ask, refusedExplanation, explain, Counting, countHolders}
 
@@ -72,9 +73,9 @@ right img c =
     && eqb (ask img (permissionSetOf (c .asker) (c .role) (c .item)) .result) (c .set)
 
 -- The explanations of these cases, in the same order: the rule's number, the group, what the rule gives, what everyone's line and
--- the role add, and the operation set.
-abbrev because : ℕ → ℕ → ℕ → ℕ → ℕ → ℕ → Explanation
-because rule group given everyone role operations =
+-- the role add, the operation set, and the steps from the item's owner up to the grant's domain.
+abbrev because : ℕ → ℕ → ℕ → ℕ → ℕ → ℕ → ℕ → Explanation
+because rule group given everyone role operations steps =
     record {
       number = 0;
       rule = rule;
@@ -83,22 +84,23 @@ because rule group given everyone role operations =
       «everyone_set» = everyone;
       «role_set» = role;
       operations = operations;
+      steps = steps;
     }
 
 abbrev pub reasons : List Explanation
 reasons =
-    because 2 0 7 1 0 91
-    ∷ because 4 1 3 1 0 91
-    ∷ because 3 0 0 1 0 3
-    ∷ because 3 0 8 1 0 9
-    ∷ because 3 0 8 1 3 11
-    ∷ because 2 0 7 1 0 9
-    ∷ because 2 0 7 1 0 11
-    ∷ because 3 0 8 1 0 9
-    ∷ because 5 0 0 1 0 127
-    ∷ because 5 0 0 1 0 73
-    ∷ because 5 0 0 0 0 91
-    ∷ because 1 0 4294967295 0 0 4294967295
+    because 2 0 7 1 0 91 outside
+    ∷ because 4 1 3 1 0 91 outside
+    ∷ because 3 0 0 1 0 3 outside
+    ∷ because 3 0 8 1 0 9 outside
+    ∷ because 3 0 8 1 3 11 0
+    ∷ because 2 0 7 1 0 9 outside
+    ∷ because 2 0 7 1 0 11 outside
+    ∷ because 3 0 8 1 0 9 outside
+    ∷ because 5 0 0 1 0 127 outside
+    ∷ because 5 0 0 1 0 73 outside
+    ∷ because 5 0 0 0 0 91 outside
+    ∷ because 1 0 4294967295 0 0 4294967295 outside
     ∷ []
 
 -- asked on an image, the explanation of a case
@@ -111,7 +113,7 @@ abbrev pub furtherCases : List Case
 furtherCases = case 0 0 2 0 ∷ case 6 0 2 0 ∷ case 2 0 5 0 ∷ []
 
 abbrev pub furtherReasons : List Explanation
-furtherReasons = because 1 0 4294967295 0 0 4294967295 ∷ refusedExplanation 10 ∷ refusedExplanation 12 ∷ []
+furtherReasons = because 1 0 4294967295 0 0 4294967295 outside ∷ refusedExplanation 10 ∷ refusedExplanation 12 ∷ []
 
 -- Count holders on item i with k lent counts, each of which is 9 before the call.
 pub record Count : Type 0 where
@@ -162,7 +164,7 @@ abbrev pub ownerCases : List Case
 ownerCases = case 4 0 3 9 ∷ case 5 0 1 1 ∷ case 2 0 2 3 ∷ []
 
 abbrev pub ownerReasons : List Explanation
-ownerReasons = because 3 0 8 1 0 9 ∷ because 3 0 0 1 0 3 ∷ because 4 1 3 1 0 91 ∷ []
+ownerReasons = because 3 0 8 1 0 9 outside ∷ because 3 0 0 1 0 3 outside ∷ because 4 1 3 1 0 91 outside ∷ []
 
 -- Whom the editor search names. 64 is the set with the privilege to edit a list alone. In the workshop nobody but the custodian has
 -- it on list 1. One line after the other then makes 3 an editor, 2, which is in the group of 1, and 1, which owns the list.
@@ -207,3 +209,44 @@ editorSearches =
     ∷ editorSearch workshop 2 13 0
     ∷ editorSearch workshop 5 13 0
     ∷ []
+
+-- The steps that the call answers in the workshop, from one subject up to another, with its number and its result. 5 is below 2,
+-- which is below 1; 1 created both, and the custodian created 4, which is below 3. Subject 6 is not in use.
+pub record StepsCase : Type 0 where
+  pub subject : ℕ
+  pub root : ℕ
+  pub number : ℕ
+  pub result : ℕ
+
+abbrev stepsCase : ℕ → ℕ → ℕ → ℕ → StepsCase
+stepsCase s h n k = record { subject = s; root = h; number = n; result = k }
+
+abbrev climbed : List ℕ → StepsCase → Answer
+climbed img c = ask img (countSteps (c .subject) (c .root))
+
+abbrev pub climbedRight : List ℕ → StepsCase → Bool
+climbedRight img c = eqb (climbed img c .number) (c .number) && eqb (climbed img c .result) (c .result)
+
+abbrev pub stepsCases : List StepsCase
+stepsCases =
+    stepsCase 5 2 0 1
+    ∷ stepsCase 5 1 0 2
+    ∷ stepsCase 5 0 0 3
+    ∷ stepsCase 5 5 0 0
+    ∷ stepsCase 0 0 0 0
+    ∷ stepsCase 4 3 0 1
+    ∷ stepsCase 4 1 0 outside
+    ∷ stepsCase 2 5 0 outside
+    ∷ stepsCase 6 0 11 0
+    ∷ stepsCase 5 6 11 0
+    ∷ []
+
+-- When item 2 is handed over to 5, its owner is one step below 2, the domain of the grant that 4 holds under role 7.
+abbrev pub lowerOwner : Tables
+lowerOwner = after workshop (handOver 0 2 5)
+
+abbrev pub lowerOwnerCases : List Case
+lowerOwnerCases = case 4 7 2 11 ∷ []
+
+abbrev pub lowerOwnerReasons : List Explanation
+lowerOwnerReasons = because 3 0 8 1 3 11 1 ∷ []

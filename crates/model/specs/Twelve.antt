@@ -1,7 +1,8 @@
 -- The twelve sets of the sample workshop, proved against the rules: the permission set call answers each of them on the
 -- workshop's image, which is accepted. One theorem covers the whole table. Another covers the explanations of these sets, a third
 -- three further explanations, two of them refused, a fourth the counts of holders on each item and four refused calls. Two are
--- about owners without an owner line. The last is about whom the editor search names. All are proved by computation.
+-- about owners without an owner line, one about whom the editor search names. The last two are about steps: what the call answers,
+-- and an explanation. All are proved by computation.
 use mathlib.Core.List.{map}
 use mathlib.Core.Path.{_≡_, refl}
 use lib.Dec.{T}
@@ -10,7 +11,7 @@ use Rattle.model.specs.Image.{encode}
 use Rattle.model.specs.Computing.{computing}
 use Rattle.model.specs.Sample.{workshop, twelve, right, reasons, explainedCase, furtherCases, furtherReasons}
 use Rattle.model.specs.Sample.{countedCase, countCases, countOutcomes, withoutOwnerLine, ownerCases, ownerReasons}
-use Rattle.model.specs.Sample.{namedRight, editorSearches}
+use Rattle.model.specs.Sample.{namedRight, editorSearches, climbedRight, stepsCases, lowerOwner, lowerOwnerCases, lowerOwnerReasons}
 
 pub the-twelve : T (every (right (encode workshop)) twelve)
 unfolding workshop computing
@@ -39,3 +40,11 @@ the-owners-reasons = refl
 pub the-editors : T (every namedRight editorSearches)
 unfolding workshop computing
 the-editors = tt
+
+pub the-steps : T (every (climbedRight (encode workshop)) stepsCases)
+unfolding workshop computing
+the-steps = tt
+
+pub the-lower-owner : map (explainedCase (encode lowerOwner)) lowerOwnerCases ≡ lowerOwnerReasons
+unfolding workshop computing
+the-lower-owner = refl

@@ -1,6 +1,7 @@
 // The basic types, constants and functions of the library: numbers, rows, privilege positions, calls. specs/ defines what they
 // mean, in one file for each section of document 01.
 ghost use mathlib.Core.Path.{_≡_};
+ghost use Rattle.model.specs.Tree.{stepsNumber, foundSteps};
 ghost use Rattle.model.specs.WhoAndWhat.{maskOf, neededPosition, has, within, _∪_, _∩_};
 ghost use Rattle.model.specs.Image.{subjectRow, grantRow, lineRow, itemRow, withList, withOwner, listFlag, lockedFlag};
 ghost use Rattle.model.specs.Permission.{ruleNumber, ruleGroup, ruleSet};
@@ -63,6 +64,12 @@ pub enum Rule {
 pub enum SoughtGrant {
     Grant(GrantRow),
     NoGrant,
+}
+
+// How many steps lead from a subject up to the root of a tree; or that it is outside that tree.
+pub enum SoughtSteps {
+    Steps(u32),
+    Outside,
 }
 
 // One table of an image: how many rows are in use, the offset at which it starts, and the offset right behind its last byte.
@@ -148,8 +155,23 @@ impl Rule {
     }
 }
 
-// Why a permission set is what it is: 0, the rule that decided, the subject whose group line that was, and the sets that are
-// put together. Or the refusal, and 0 in every other field.
+impl SoughtSteps {
+    // The number that is answered for a subject that is outside.
+    pub const OUTSIDE: u32 = 4294967295;
+
+    // The number that is answered.
+    pub fn number(self) -> u32
+        ensures { λ r. ⌜ r ≡ stepsNumber (foundSteps self) ⌝ }
+    {
+        match self {
+            SoughtSteps::Steps(count) => count,
+            SoughtSteps::Outside => SoughtSteps::OUTSIDE,
+        }
+    }
+}
+
+// Why a permission set is what it is: 0, the rule that decided, the subject whose group line that was, the sets that are put
+// together, and the steps from the item's owner up to the grant's domain. Or the refusal, and 0 in every other field.
 #[repr(C)]
 pub struct Explanation {
     pub number: u32,
@@ -159,6 +181,7 @@ pub struct Explanation {
     pub everyone_set: Privileges,
     pub role_set: Privileges,
     pub operations: Privileges,
+    pub steps: u32,
 }
 
 impl Explanation {
@@ -173,6 +196,7 @@ impl Explanation {
             everyone_set: 0,
             role_set: 0,
             operations: 0,
+            steps: 0,
         }
     }
 }

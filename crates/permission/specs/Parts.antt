@@ -1,6 +1,5 @@
 -- The lines' part and what a grant adds, case by case as in the code.
-use mathlib.Core.Bool.{Bool, true, false, not}
-use mathlib.Core.Option.{some}
+use mathlib.Core.Option.{Option, none, some}
 use mathlib.Core.Path.{_≡_, refl, sym, _∙_}
 use Prim.Native.Nat.{ℕ}
 use lib.Bits.{or-zero-r}
@@ -10,11 +9,13 @@ use Rattle.model.specs.declared.Rule.{Rule}
 use Rattle.model.specs.declared.Rule.the-variants.{Custodian, NothingFound}
 use Rattle.model.specs.declared.SoughtGrant.{SoughtGrant}
 use Rattle.model.specs.declared.SoughtGrant.the-variants.{Grant, NoGrant}
-use Rattle.model.specs.Tree.{inTree}
+use Rattle.model.specs.declared.SoughtSteps.{SoughtSteps}
+use Rattle.model.specs.declared.SoughtSteps.the-variants.{Steps, Outside}
+use Rattle.model.specs.Tree.{foundSteps}
 use Rattle.model.specs.WhoAndWhat.{everything, _∪_, _∩_}
 use Rattle.model.specs.Image.{Tables, widthIn, parentIn, privilegesIn}
-use Rattle.model.specs.Permission.{foundGrant, ruleSet, ruleOn, everyoneOn, partOn, lentOperations, lentOn}
-use Rattle.laws.specs.Tests.{said-no, said-yes}
+use Rattle.model.specs.Permission.{foundGrant, ruleSet, ruleOn, everyoneOn, partOn, lentOperations, domainSteps, lentOn}
+use Rattle.tables.specs.Climbs.{tree-inside, tree-outside}
 use Rattle.permission.specs.Searches.{rule-custodian, everyone-custodian, rule-unlisted, everyone-unlisted}
 
 module _ (t : Tables) (s : ℕ) (row : ItemRow) where
@@ -39,13 +40,13 @@ module _ (t : Tables) (s : ℕ) (row : ItemRow) where
   part-unlisted some-s z =
       part-joined 0 NothingFound all 0 0 (everyone-unlisted t s row some-s z) (rule-unlisted t s row some-s z) refl refl refl
 
-module _ (t : Tables) (g : GrantRow) (row : ItemRow) (b : Bool)
-    (asked : b ≡ inTree (parentIn (t .subjects)) (g .domain .0) (row .owner .0)) where
-  pub part-outside : not b ≡ true → 0 ≡ lentOn t (some g) row
-  part-outside out = rw (said-no (inTree (parentIn (t .subjects)) (g .domain .0) (row .owner .0)) b asked out)
+-- what a grant adds, by the steps that were found from the item's owner up to its domain
+module _ (t : Tables) (g : GrantRow) (row : ItemRow) (x : SoughtSteps) (found : foundSteps x ≡ domainSteps t (some g) row) where
+  pub part-outside : x ≡ Outside → 0 ≡ lentOn t (some g) row
+  part-outside case = rw (← tree-outside (parentIn (t .subjects)) (g .domain .0) (row .owner .0) x found case)
 
-  pub part-lent : (p r : ℕ) → not b ≡ false → p ≡ partOn t (g .grantor .0) row → r ≡ g .privileges ∩ p → r ≡ lentOn t (some g) row
-  part-lent p r inside e f = rw (← e, said-yes (inTree (parentIn (t .subjects)) (g .domain .0) (row .owner .0)) b asked inside) f
+  pub part-inside : (n p r : ℕ) → x ≡ Steps n → p ≡ partOn t (g .grantor .0) row → r ≡ g .privileges ∩ p → r ≡ lentOn t (some g) row
+  part-inside n p r case e f = rw (← e, ← tree-inside (parentIn (t .subjects)) (g .domain .0) (row .owner .0) x found n case) f
 
 -- what a search for the grant found
 module _ (t : Tables) (x : SoughtGrant) where
@@ -59,5 +60,12 @@ module _ (t : Tables) (x : SoughtGrant) where
     pub part-granted : (row : ItemRow) → r ≡ lentOn t (some g) row → r ≡ lentOn t (foundGrant x) row
     part-granted row e = rw said e
 
-  pub part-none : (row : ItemRow) → x ≡ NoGrant → 0 ≡ lentOn t (foundGrant x) row
-  part-none row said = rw said
+    pub steps-granted : (row : ItemRow) (o : Option ℕ) → o ≡ domainSteps t (some g) row → o ≡ domainSteps t (foundGrant x) row
+    steps-granted row o e = rw said e
+
+  module _ (said : x ≡ NoGrant) (row : ItemRow) where
+    pub part-none : 0 ≡ lentOn t (foundGrant x) row
+    part-none = rw said
+
+    pub steps-none : none ≡ domainSteps t (foundGrant x) row
+    steps-none = rw said

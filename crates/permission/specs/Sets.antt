@@ -9,10 +9,11 @@ use Rattle.model.specs.declared.ItemRow.{ItemRow}
 use Rattle.model.specs.declared.Rule.{Rule}
 use Rattle.model.specs.declared.SoughtGrant.{SoughtGrant}
 use Rattle.model.specs.declared.SoughtGrant.the-variants.{Grant, NoGrant}
+use Rattle.model.specs.Tree.{stepsNumber}
 use Rattle.model.specs.WhoAndWhat.{everything, _∪_, _∩_}
 use Rattle.model.specs.Image.{Tables, widthIn, privilegesIn, itemIn}
 use Rattle.model.specs.Permission.{ruleNumber, ruleGroup, ruleSet, ruleOn, everyoneOn, explanationUnder, explanation}
-use Rattle.model.specs.Permission.{foundGrant, partOn, lentOperations, lentOn, grantOf}
+use Rattle.model.specs.Permission.{foundGrant, partOn, lentOperations, domainSteps, lentOn, grantOf}
 use Rattle.model.specs.Permission.{operationUnder, objectUnder, permissionUnder, operationSet, permissionSet}
 
 module _ (t : Tables) (s : ℕ) (g : Option GrantRow) (a b r : ℕ) where
@@ -41,10 +42,11 @@ module _ (t : Tables) (s : ℕ) (x : SoughtGrant) (i : ℕ) (row : ItemRow) (rea
 
 -- the explanation, on an item whose row was read; the rule that was found has its number, its group and its set
 module _ (t : Tables) (s : ℕ) (g : Option GrantRow) (i : ℕ) where
-  pub explanation-made : (row : ItemRow) (rule : Rule) (all : ℕ) (e : Explanation)
+  pub explanation-made : (row : ItemRow) (rule : Rule) (all : ℕ) (steps : Option ℕ) (e : Explanation)
       → row ≡ itemIn (t .items) i
       → rule ≡ ruleOn t s row
       → all ≡ everything (widthIn t)
+      → steps ≡ domainSteps t g row
       → e .number ≡ 0
       → e .rule ≡ ruleNumber rule
       → e .group ≡ ruleGroup rule
@@ -52,10 +54,11 @@ module _ (t : Tables) (s : ℕ) (g : Option GrantRow) (i : ℕ) where
       → e .«everyone_set» ≡ everyoneOn t s row
       → e .«role_set» ≡ lentOn t g row
       → e .operations ≡ operationUnder t s g
+      → e .steps ≡ stepsNumber steps
       → e ≡ explanationUnder t s g i
   unfolding explanationUnder
-  explanation-made row rule all e read deciding whole none number group given everyone lent operations =
-      rw (← read, ← deciding, ← whole, ← number, ← group, ← given, ← everyone, ← lent, ← operations, ← none)
+  explanation-made row rule all steps e read deciding whole climbed none number group given everyone lent operations far =
+      rw (← read, ← deciding, ← climbed, ← far, ← whole, ← number, ← group, ← given, ← everyone, ← lent, ← operations, ← none)
 
 -- under the grant that was found for the claimed role
 module _ (t : Tables) (s role : ℕ) (g : Option GrantRow) (r : ℕ) (found : g ≡ grantOf t s role) where

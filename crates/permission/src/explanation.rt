@@ -1,5 +1,5 @@
-// Why a permission set is what it is: the rule that decided, and the sets that are put together. Each comes from the function by
-// which the permission set itself is found.
+// Why a permission set is what it is: the rule that decided, the sets that are put together, and how far the item's owner is below
+// the grant's domain. Each comes from the function by which the permission set itself is found.
 ghost use mathlib.Core.Path.{_≡_};
 ghost use Rattle.model.specs.Permission.{foundGrant, explanationUnder, explanation};
 ghost use Rattle.model.specs.Lent.{tablesAt};
@@ -16,7 +16,8 @@ use model::Subject;
 use rows::read::item_at;
 use sizes::all_privileges;
 
-// Under a grant that the subject holds or might hold. The item's row is read once.
+// Under a grant that the subject holds or might hold. The item's row is read once, and the climb to the grant's domain is made
+// once, for what the role adds and for the steps.
 pub fn explanation_under(
     image: &[u8],
     layout: Layout,
@@ -29,7 +30,8 @@ pub fn explanation_under(
     let row = item_at(image, layout, item);
     let applied = applied_lines(image, layout, subject, row);
     let rule = applied.rule;
-    let role = lent_part(image, layout, grant, row);
+    let lent = lent_part(image, layout, grant, row);
+    let steps = lent.steps;
     let operations = operations_under(image, layout, subject, grant);
     Explanation {
         number: 0,
@@ -37,8 +39,9 @@ pub fn explanation_under(
         group: rule.group(),
         rule_set: rule.set(all_privileges(layout)),
         everyone_set: applied.everyone,
-        role_set: role,
+        role_set: lent.privileges,
         operations,
+        steps: steps.number(),
     }
 }
 

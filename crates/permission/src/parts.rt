@@ -1,7 +1,8 @@
 // What a grant adds to the sets of a subject.
 ghost use mathlib.Core.Option.{some};
 ghost use mathlib.Core.Path.{_≡_};
-ghost use Rattle.model.specs.Permission.{foundGrant, lentOperations, lentOn};
+ghost use Rattle.model.specs.Tree.{foundSteps};
+ghost use Rattle.model.specs.Permission.{foundGrant, lentOperations, domainSteps, lentOn};
 ghost use Rattle.model.specs.Lent.{tablesAt};
 use crate::lines::lines_part;
 use model::GrantRow;
@@ -9,9 +10,10 @@ use model::ItemRow;
 use model::Layout;
 use model::Privileges;
 use model::SoughtGrant;
+use model::SoughtSteps;
 use model::intersection;
-use tables::subjects::in_tree;
 use tables::subjects::privileges_of;
+use tables::subjects::steps_up;
 
 // What a grant adds to the operation set: its privileges that its grantor also has.
 pub fn lent_operations(image: &[u8], layout: Layout, grant: SoughtGrant) -> Privileges
@@ -26,26 +28,54 @@ pub fn lent_operations(image: &[u8], layout: Layout, grant: SoughtGrant) -> Priv
     }
 }
 
-// What a grant that may be missing adds to the object set of an item.
-pub fn lent_part(image: &[u8], layout: Layout, grant: SoughtGrant, item: ItemRow) -> Privileges
-    ensures { λ r. ⌜ r ≡ lentOn (tablesAt layout (image .entry)) (foundGrant grant) item ⌝ }
+// What a grant that may be missing adds to the object set of an item, and the steps from the item's owner up to its domain.
+pub struct LentPart {
+    pub steps: SoughtSteps,
+    pub privileges: Privileges,
+}
+
+pub fn lent_part(image: &[u8], layout: Layout, grant: SoughtGrant, item: ItemRow) -> LentPart
+    ensures { λ r. ⌜ foundSteps (r .steps) ≡ domainSteps (tablesAt layout (image .entry)) (foundGrant grant) item ⌝ }
+    ensures { λ r. ⌜ r .privileges ≡ lentOn (tablesAt layout (image .entry)) (foundGrant grant) item ⌝ }
 {
     match grant {
-        SoughtGrant::Grant(row) => granted_part(image, layout, row, item),
-        SoughtGrant::NoGrant => 0,
+        SoughtGrant::Grant(row) => {
+            let steps = steps_up(image, layout, item.owner, row.domain);
+            let privileges = part_within(image, layout, row, item, steps);
+            LentPart { steps, privileges }
+        }
+        SoughtGrant::NoGrant => LentPart {
+            steps: SoughtSteps::Outside,
+            privileges: 0,
+        },
     }
 }
 
-// What a grant adds to the object set of an item whose owner is in the grant's domain: its privileges that are in its
-// grantor's lines' part.
+// What a grant adds to the object set of an item.
 pub fn granted_part(image: &[u8], layout: Layout, grant: GrantRow, item: ItemRow) -> Privileges
     ensures { λ r. ⌜ r ≡ lentOn (tablesAt layout (image .entry)) (some grant) item ⌝ }
 {
-    if !in_tree(image, layout, grant.domain, item.owner) {
-        return 0;
+    let steps = steps_up(image, layout, item.owner, grant.domain);
+    part_within(image, layout, grant, item, steps)
+}
+
+// The same by the steps from the item's owner up to the grant's domain. If the owner is inside, it is those privileges of the
+// grant that are in its grantor's lines' part.
+fn part_within(
+    image: &[u8],
+    layout: Layout,
+    grant: GrantRow,
+    item: ItemRow,
+    steps: SoughtSteps,
+) -> Privileges
+    requires { ⌜ foundSteps steps ≡ domainSteps (tablesAt layout image) (some grant) item ⌝ }
+    ensures { λ r. ⌜ r ≡ lentOn (tablesAt layout (image .entry)) (some grant) item ⌝ }
+{
+    match steps {
+        SoughtSteps::Steps(_) => intersection(
+            grant.privileges,
+            lines_part(image, layout, grant.grantor, item),
+        ),
+        SoughtSteps::Outside => 0,
     }
-    intersection(
-        grant.privileges,
-        lines_part(image, layout, grant.grantor, item),
-    )
 }

@@ -1,38 +1,61 @@
 -- A climb to the root of a tree, step by step.
-use mathlib.Core.Bool.{Bool, false, _&&_}
-use mathlib.Core.Logic.{inl, inr}
-use mathlib.Core.Path.{_≡_, refl, _∙_}
-use Prim.Native.Nat.{ℕ, _<_, _≤_}
+use mathlib.Core.Bool.{true, false, cond}
+use mathlib.Core.Option.{Option, none, some, Option·map}
+use mathlib.Core.Path.{_≡_, refl, sym, ap, _∙_}
+use Prim.Native.Nat.{ℕ, suc, _+_, _<_, _≤_}
 use native.Mathlib.Omega.{arith}
 use borrow.Author.Tests.{lt-ltb, le-ltb, eq-eqb, ne-eqb}
-use lib.Dec.{eqb, ltb}
-use Rattle.model.specs.Tree.{inTree}
-use Rattle.laws.specs.Tests.{lt-eq-gt}
-use Rattle.laws.specs.Tree.{tree-up, tree-below}
+use lib.Dec.{ltb}
+use Rattle.model.specs.declared.SoughtSteps.{SoughtSteps}
+use Rattle.model.specs.declared.SoughtSteps.the-variants.{Steps, Outside}
+use Rattle.model.specs.Tree.{stepsUp, inTree, foundSteps}
+use Rattle.laws.specs.Tree.{steps-up, steps-below, steps-inside, steps-outside}
+
+-- k steps, and those that there are from then on
+abbrev after : ℕ → Option ℕ → Option ℕ
+after k none = none
+after k (some n) = some (k + n)
 
 module _ (up : ℕ → ℕ) (h s : ℕ) where
-  -- the question has the same answer for s and for the number that the climb has reached
-  pub record Climbed (at : ℕ) : Type 0 where
-    pub same-question : inTree up h s ≡ inTree up h at
+  -- The climb has reached `at` in k steps. The steps from s are these and those from there, and each went to a lower number.
+  pub record Climbed (k at : ℕ) : Type 0 where
+    pub so-far : stepsUp up s h ≡ after k (stepsUp up at h)
+    pub fell : k + at ≤ s
 
-  pub climbed-none : Climbed s
-  climbed-none = record { same-question = refl }
+  pub climbed-none : Climbed 0 s
+  climbed-none = record { so-far = sym (go (stepsUp up s h)); fell = omega arith }
+    where
+      go : (o : Option ℕ) → after 0 o ≡ o
+      go none = refl
+      go (some n) = let same : 0 + n ≡ n = omega arith in rw same
 
-  -- one more step, above the root
-  step : (at : ℕ) → Climbed at → h < at → inTree up h s ≡ (ltb (up at) at && inTree up h (up at))
-  step at c l = c .same-question ∙ tree-up up h at ∙ rw (ne-eqb at h (omega arith))
+  module _ (k at : ℕ) (c : Climbed k at) where
+    -- one more step, above the root
+    module _ (above : h < at) (p : ℕ) (read : p ≡ up at) where
+      step : stepsUp up s h ≡ after k (cond (ltb p at) (Option·map suc (stepsUp up p h)) none)
+      step = c .so-far ∙ rw (steps-up up h at, ne-eqb at h (omega arith), read)
 
-  pub climbed-out : (at p : ℕ) → Climbed at → h < at → p ≡ up at → at ≤ p → false ≡ inTree up h s
-  climbed-out at p c l e out = rw (step at c l, ← e, le-ltb p at out)
+      pub climbed-out : at ≤ p → none ≡ stepsUp up s h
+      climbed-out out = sym (step ∙ rw (le-ltb p at out))
 
-  pub climbed-up : (at p : ℕ) → Climbed at → h < at → p ≡ up at → p < at → Climbed p
-  climbed-up at p c l e low = record { same-question = rw (step at c l, ← e, lt-ltb p at low) }
+      pub climbed-up : p < at → Climbed (k + 1) p
+      climbed-up low = record { so-far = step ∙ rw (lt-ltb p at low) (go (stepsUp up p h)); fell = omega (arith, c .fell) }
+        where
+          go : (o : Option ℕ) → after k (Option·map suc o) ≡ after (k + 1) o
+          go none = refl
+          go (some n) = let same : k + suc n ≡ k + 1 + n = omega arith in rw same
 
-  pub climbed-there : (at : ℕ) (b : Bool) → Climbed at → at ≤ h → b ≡ eqb at h → b ≡ inTree up h s
-  climbed-there at b c l e =
-      e
-      ∙ elim (lt-eq-gt at h) [
-        | inl low ↦ rw (c .same-question, tree-below up h at low, ne-eqb at h (omega arith))
-        | inr (inl here) ↦ rw (c .same-question, tree-up up h at, eq-eqb at h here)
-        | inr (inr high) ↦ absurd (omega arith)
-      ]
+    -- the climb is not above the root any more
+    pub climbed-past : at ≤ h → (at ≡ h → ⊥) → none ≡ stepsUp up s h
+    climbed-past low other = sym (c .so-far ∙ rw (steps-below up h at (omega arith)))
+
+    pub climbed-there : at ≡ h → some k ≡ stepsUp up s h
+    climbed-there here = sym (c .so-far ∙ rw (steps-up up h at, eq-eqb at h here) (let same : k + 0 ≡ k = omega arith in rw same))
+
+-- being in the tree, by what the climb found
+module _ (up : ℕ → ℕ) (h s : ℕ) (x : SoughtSteps) (found : foundSteps x ≡ stepsUp up s h) where
+  pub tree-inside : (n : ℕ) → x ≡ Steps n → true ≡ inTree up h s
+  tree-inside n case = sym (steps-inside up h s n (sym found ∙ ap foundSteps case))
+
+  pub tree-outside : x ≡ Outside → false ≡ inTree up h s
+  tree-outside case = sym (steps-outside up h s (sym found ∙ ap foundSteps case))

@@ -29,6 +29,9 @@ all-privileges-requires c κs = search needs
 set-requires : tie.Need-set-requires
 set-requires c κs = search needs
 
+number-requires-2 : tie.Need-number-requires-2
+number-requires-2 c κs = search needs
+
 returns : tie.Need-returns
 unfolding tablesBy
 returns c = search explanation-made
@@ -45,4 +48,5 @@ explanation-under-spec =
     group-requires
     all-privileges-requires
     set-requires
+    number-requires-2
     returns)
