@@ -164,3 +164,29 @@ pub fn lines_of(image: &[u8], list: Item) -> Result<&[u8], Refusal> {
 pub fn find_editor(image: &[u8], list: Item) -> Result<Subject, Refusal> {
     ffi::find_editor(image, list).result().map(Subject)
 }
+
+/// How many steps lead from a subject up to the root of a tree, from each subject to its parent: 0 for
+/// the root itself, 1 for those directly below it. `None` for a subject outside of the tree.
+///
+/// Nobody needs to be the caller. [`Refusal::UnknownSubject`] where one of the two is not in use.
+///
+/// ```
+/// use dacm::{Capacities, Privileges, Refusal, Role, Subject};
+///
+/// # fn main() -> Result<(), Refusal> {
+/// # let (custodian, no_role, none) = (Subject::CUSTODIAN, Role::NONE, Privileges::NONE);
+/// # let capacities = Capacities { subjects: 4, grants: 0, lines: 0, items: 0 };
+/// # let mut image = capacities.empty_image()?;
+/// let chain = dacm::define_subject(&mut image, custodian, no_role, custodian, none)?;
+/// let hall = dacm::define_subject(&mut image, custodian, no_role, chain, none)?;
+/// let technician = dacm::define_subject(&mut image, custodian, no_role, hall, none)?;
+///
+/// assert_eq!(dacm::steps_up(&image, technician, chain)?, Some(2));
+/// assert_eq!(dacm::steps_up(&image, chain, chain)?, Some(0));
+/// assert_eq!(dacm::steps_up(&image, chain, technician)?, None);
+/// # Ok(())
+/// # }
+/// ```
+pub fn steps_up(image: &[u8], subject: Subject, root: Subject) -> Result<Option<u32>, Refusal> {
+    ffi::steps_up(image, subject, root).result().map(ffi::steps)
+}

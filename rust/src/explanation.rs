@@ -86,6 +86,10 @@ pub struct Explanation {
     pub role_set: Privileges,
     /// The operation set: what the subject under the role may do at all, whatever the item.
     pub operations: Privileges,
+    /// How many steps the item's owner is below the domain of the grant, as
+    /// [`steps_up`](crate::steps_up) counts them. `None` where the role is not granted, and where the
+    /// owner is outside of the domain's tree. The role then adds nothing.
+    pub steps: Option<u32>,
 }
 
 impl Explanation {
@@ -172,6 +176,7 @@ mod tests {
             everyone_set,
             role_set,
             operations,
+            steps: None,
         }
     }
 

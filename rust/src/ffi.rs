@@ -36,6 +36,13 @@ pub(crate) struct Explanation {
     everyone_set: Privileges,
     role_set: Privileges,
     operations: Privileges,
+    steps: u32,
+}
+
+/// The steps that a number stands for. The highest number stands for none: outside of the tree. It is
+/// proved of the archive that no count of steps is as high.
+pub(crate) fn steps(number: u32) -> Option<u32> {
+    (number != u32::MAX).then_some(number)
 }
 
 impl Explanation {
@@ -48,6 +55,7 @@ impl Explanation {
                 everyone_set: self.everyone_set,
                 role_set: self.role_set,
                 operations: self.operations,
+                steps: steps(self.steps),
             }),
             number => Err(Refusal::from_number(number)),
         }
@@ -95,6 +103,7 @@ calls_that_ask! {
     fn list_count = dacm_list_count(list: Item) -> Answer;
     fn list_start = dacm_list_start(list: Item) -> usize;
     fn find_editor = dacm_find_editor(list: Item) -> Answer;
+    fn steps_up = dacm_steps_up(subject: Subject, root: Subject) -> Answer;
 }
 
 extern "C" {

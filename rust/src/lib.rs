@@ -102,7 +102,8 @@ mod rows;
 mod tables;
 
 pub use asking::{
-    check, count_holders, explain, find_editor, lines_of, list_count, operation_set, permission_set,
+    check, count_holders, explain, find_editor, lines_of, list_count, operation_set,
+    permission_set, steps_up,
 };
 pub use capacities::Capacities;
 pub use changing::{

@@ -7,8 +7,9 @@
 //! The test of accepted images demands at its end that each call was accepted, and refused with each
 //! of its own questions. The test of damaged images demands that each call was refused with each of
 //! the questions 1 to 7. The test of explanations demands that there was one of each sort, the test of
-//! counts that at each position one, several and all subjects were counted, and the test of editors
-//! that each rule, and the line for everyone, made the only editor and the lowest of several.
+//! counts that at each position one, several and all subjects were counted, the test of editors that
+//! each rule, and the line for everyone, made the only editor and the lowest of several, and the test
+//! of steps that there were none, one, two, more, and roots out of reach.
 
 mod support;
 mod twin;
@@ -23,7 +24,7 @@ use support::coverage::Coverage;
 use support::damage::{damage, telling_values};
 use support::editors::{expected, Ending};
 use support::examples::Examples;
-use support::explanation::{Question, GROUP_LINE, NOTHING_FOUND, OWNER_LINE, OWN_LINE};
+use support::explanation::{Question, GROUP_LINE, NOTHING_FOUND, OUTSIDE, OWNER_LINE, OWN_LINE};
 use support::holders::counts_of_sets;
 use support::libraries::Size;
 use support::random::Random;
@@ -214,6 +215,52 @@ fn every_ending() -> BTreeSet<Ending> {
         }
     }
     endings
+}
+
+/// Everything that the steps can be asked about small libraries: each subject and each root, and numbers
+/// that are not in use.
+#[test]
+fn steps() {
+    let ways = &mut BTreeSet::new();
+    for seed in 0..rounds(5_000) {
+        let random = &mut Random::new(seed);
+        let tables = Size::small(random).library(random);
+        let image = &mut tables.image();
+        let seed = format!("a small library, seed {seed}");
+        let used = tables.subjects.used() as u32;
+        for (subject, root) in (0..=used).flat_map(|s| (0..=used).map(move |root| (s, root))) {
+            let outcome = compare(image, &Call::StepsUp { subject, root }, &seed);
+            let refusal = if subject.max(root) < used { 0 } else { 11 };
+            assert_eq!(outcome.number, refusal, "{seed}, {subject} to {root}");
+            if refusal == 0 {
+                ways.insert(way(&tables, subject, root, outcome.result));
+            }
+        }
+    }
+    assert_eq!(ways, &every_way());
+}
+
+/// Where a root is: so many steps up, three standing for more, or outside; and whether it would be as
+/// far if one went up from each subject to its creator.
+type Way = (Option<u32>, bool);
+
+fn way(tables: &Tables, subject: u32, root: u32, steps: u32) -> Way {
+    let mut by_creators = tables.clone();
+    for [parent, _, creator] in &mut by_creators.subjects.rows {
+        *parent = *creator;
+    }
+    let steps = (steps != OUTSIDE).then_some(steps);
+    let same = by_creators.steps_up(subject, root) == steps;
+    (steps.map(|steps| steps.min(3)), same)
+}
+
+/// Whoever is the root itself is so by its creators too.
+fn every_way() -> BTreeSet<Way> {
+    let far = [Some(1), Some(2), Some(3), None];
+    let ways = far
+        .into_iter()
+        .flat_map(|steps| [(steps, false), (steps, true)]);
+    ways.chain([(Some(0), true)]).collect()
 }
 
 /// Every field of the sample and of some random images, replaced in turn by every value that is

@@ -9,7 +9,7 @@ use support::boundary::custodian_only;
 use support::call::{library, Call, Counts, Outcome};
 use support::compare::compare;
 use support::explanation::{
-    Explanation, Question, CUSTODIAN, GROUP_LINE, NOTHING_FOUND, OWNER_LINE, OWN_LINE,
+    Explanation, Question, CUSTODIAN, GROUP_LINE, NOTHING_FOUND, OUTSIDE, OWNER_LINE, OWN_LINE,
 };
 use support::sample::{sample, EVERYONE, GROUP, ITSELF, OWNER};
 use support::tables::{get_field, set_field, Table, Tables};
@@ -78,24 +78,25 @@ fn the_twelve_sets() {
     }
 }
 
-/// Asker, role, item; then rule, group, set of the rule, of everyone, of the role, of operations.
-type Explained = ([u32; 3], [u32; 6]);
+/// Asker, role, item; then rule, group, set of the rule, of everyone, of the role, of operations, and the
+/// steps from the item's owner up to the grant's domain.
+type Explained = ([u32; 3], [u32; 7]);
 
 #[test]
 fn the_twelve_explanations() {
     let explained: [Explained; 12] = [
-        ([2, 0, 2], [OWNER_LINE, 0, 7, 1, 0, 91]),
-        ([2, 0, 3], [GROUP_LINE, 1, 3, 1, 0, 91]),
-        ([5, 0, 2], [OWN_LINE, 0, 0, 1, 0, 3]),
-        ([4, 0, 2], [OWN_LINE, 0, 8, 1, 0, 9]),
-        ([4, 7, 2], [OWN_LINE, 0, 8, 1, 3, 11]),
-        ([4, 0, 3], [OWNER_LINE, 0, 7, 1, 0, 9]),
-        ([4, 7, 3], [OWNER_LINE, 0, 7, 1, 0, 11]),
-        ([4, 9, 2], [OWN_LINE, 0, 8, 1, 0, 9]),
-        ([1, 0, 2], [NOTHING_FOUND, 0, 0, 1, 0, 127]),
-        ([3, 0, 2], [NOTHING_FOUND, 0, 0, 1, 0, 73]),
-        ([2, 0, 4], [NOTHING_FOUND, 0, 0, 0, 0, 91]),
-        ([0, 0, 4], [CUSTODIAN, 0, u32::MAX, 0, 0, u32::MAX]),
+        ([2, 0, 2], [OWNER_LINE, 0, 7, 1, 0, 91, OUTSIDE]),
+        ([2, 0, 3], [GROUP_LINE, 1, 3, 1, 0, 91, OUTSIDE]),
+        ([5, 0, 2], [OWN_LINE, 0, 0, 1, 0, 3, OUTSIDE]),
+        ([4, 0, 2], [OWN_LINE, 0, 8, 1, 0, 9, OUTSIDE]),
+        ([4, 7, 2], [OWN_LINE, 0, 8, 1, 3, 11, 0]),
+        ([4, 0, 3], [OWNER_LINE, 0, 7, 1, 0, 9, OUTSIDE]),
+        ([4, 7, 3], [OWNER_LINE, 0, 7, 1, 0, 11, OUTSIDE]),
+        ([4, 9, 2], [OWN_LINE, 0, 8, 1, 0, 9, OUTSIDE]),
+        ([1, 0, 2], [NOTHING_FOUND, 0, 0, 1, 0, 127, OUTSIDE]),
+        ([3, 0, 2], [NOTHING_FOUND, 0, 0, 1, 0, 73, OUTSIDE]),
+        ([2, 0, 4], [NOTHING_FOUND, 0, 0, 0, 0, 91, OUTSIDE]),
+        ([0, 0, 4], [CUSTODIAN, 0, u32::MAX, 0, 0, u32::MAX, OUTSIDE]),
     ];
     for explained in explained {
         assert_explains(&sample(), explained);
@@ -105,7 +106,7 @@ fn the_twelve_explanations() {
 /// The custodian needs no line, so everyone's line is not for him.
 #[test]
 fn the_custodian_on_a_list_with_a_line_for_everyone() {
-    let custodians = [CUSTODIAN, 0, u32::MAX, 0, 0, u32::MAX];
+    let custodians = [CUSTODIAN, 0, u32::MAX, 0, 0, u32::MAX, OUTSIDE];
     assert_explains(&sample(), ([0, 0, 2], custodians));
 }
 
@@ -113,7 +114,7 @@ fn the_custodian_on_a_list_with_a_line_for_everyone() {
 fn an_owner_line_of_0_decides() {
     let mut tables = sample();
     tables.lines.rows[3] = [1, OWNER, 0, 0];
-    assert_explains(&tables, ([4, 0, 3], [OWNER_LINE, 0, 0, 1, 0, 9]));
+    assert_explains(&tables, ([4, 0, 3], [OWNER_LINE, 0, 0, 1, 0, 9, OUTSIDE]));
 }
 
 /// The sample without its owner line, the last but one.
@@ -127,8 +128,8 @@ fn without_owner_line() -> Tables {
 #[test]
 fn an_owner_without_an_owner_line() {
     let tables = without_owner_line();
-    assert_explains(&tables, ([4, 0, 3], [OWN_LINE, 0, 8, 1, 0, 9]));
-    assert_explains(&tables, ([2, 0, 2], [GROUP_LINE, 1, 3, 1, 0, 91]));
+    assert_explains(&tables, ([4, 0, 3], [OWN_LINE, 0, 8, 1, 0, 9, OUTSIDE]));
+    assert_explains(&tables, ([2, 0, 2], [GROUP_LINE, 1, 3, 1, 0, 91, OUTSIDE]));
 }
 
 /// The group of 1 would give subject 5 more.
@@ -136,7 +137,7 @@ fn an_owner_without_an_owner_line() {
 fn an_own_line_of_0_decides_for_the_owner_too() {
     let mut tables = without_owner_line();
     tables.items.rows[0] = [5, 1, 1];
-    assert_explains(&tables, ([5, 0, 1], [OWN_LINE, 0, 0, 1, 0, 3]));
+    assert_explains(&tables, ([5, 0, 1], [OWN_LINE, 0, 0, 1, 0, 3, OUTSIDE]));
 }
 
 /// Subject 2 owns item 2 and grants role 7 to 4. What it has on the item by its own line, it can lend.
@@ -144,7 +145,7 @@ fn an_own_line_of_0_decides_for_the_owner_too() {
 fn a_grantor_who_is_an_owner_without_an_owner_line() {
     let mut tables = without_owner_line();
     tables.lines.rows.insert(0, [1, ITSELF, 2, 8]);
-    assert_explains(&tables, ([4, 7, 2], [OWN_LINE, 0, 8, 1, 1, 11]));
+    assert_explains(&tables, ([4, 7, 2], [OWN_LINE, 0, 8, 1, 1, 11, 0]));
 }
 
 /// Subject 1 owns the list, which is its own list. By its own line it may edit it, so it is found and
@@ -233,9 +234,12 @@ fn the_lowest_group_decides() {
     tables.lines.rows[0] = [1, GROUP, 0, 64];
     tables.lines.rows[1] = [1, GROUP, 1, 3];
     tables.lines.rows[2] = [1, GROUP, 2, 0];
-    assert_explains(&tables, ([5, 0, 2], [GROUP_LINE, 2, 0, 1, 0, 3]));
-    assert_explains(&tables, ([2, 0, 3], [GROUP_LINE, 1, 3, 1, 0, 91]));
-    assert_explains(&tables, ([1, 0, 2], [GROUP_LINE, 0, 64, 1, 0, 127]));
+    assert_explains(&tables, ([5, 0, 2], [GROUP_LINE, 2, 0, 1, 0, 3, OUTSIDE]));
+    assert_explains(&tables, ([2, 0, 3], [GROUP_LINE, 1, 3, 1, 0, 91, OUTSIDE]));
+    assert_explains(
+        &tables,
+        ([1, 0, 2], [GROUP_LINE, 0, 64, 1, 0, 127, OUTSIDE]),
+    );
 }
 
 /// Neither by the operation set nor by the grantor's own row. The owner line lets subject 2 discard
@@ -244,7 +248,7 @@ fn the_lowest_group_decides() {
 fn the_role_part_is_not_cut() {
     let mut tables = sample();
     tables.grants.rows[0] = [4, 7, 2, 2, 4];
-    assert_explains(&tables, ([4, 7, 2], [OWN_LINE, 0, 8, 1, 4, 9]));
+    assert_explains(&tables, ([4, 7, 2], [OWN_LINE, 0, 8, 1, 4, 9, 0]));
 }
 
 /// The role's part is explained, though he has everything without it.
@@ -252,9 +256,9 @@ fn the_role_part_is_not_cut() {
 fn the_custodian_under_a_role() {
     let mut tables = sample();
     tables.grants.rows[0] = [0, 7, 2, 2, 3];
-    let on_item_2 = [CUSTODIAN, 0, u32::MAX, 0, 3, u32::MAX];
+    let on_item_2 = [CUSTODIAN, 0, u32::MAX, 0, 3, u32::MAX, 0];
     assert_explains(&tables, ([0, 7, 2], on_item_2));
-    let outside_the_domain = [CUSTODIAN, 0, u32::MAX, 0, 0, u32::MAX];
+    let outside_the_domain = [CUSTODIAN, 0, u32::MAX, 0, 0, u32::MAX, OUTSIDE];
     assert_explains(&tables, ([0, 7, 3], outside_the_domain));
 }
 
@@ -263,11 +267,81 @@ fn the_custodian_under_a_role() {
 fn a_role_granted_by_the_custodian() {
     let mut tables = sample();
     tables.grants.rows[0] = [5, 7, 0, 1, 66];
-    assert_explains(&tables, ([5, 7, 4], [NOTHING_FOUND, 0, 0, 0, 66, 67]));
+    assert_explains(&tables, ([5, 7, 4], [NOTHING_FOUND, 0, 0, 0, 66, 67, 1]));
+}
+
+/// The grant's domain is 2. An owner below it, 5, is one step away; 1 is above it, and 4 is elsewhere. When
+/// the domain is the custodian, everybody is inside.
+#[test]
+fn the_steps_of_an_explanation() {
+    let mut tables = sample();
+    for (owner, role_set, steps) in [(2, 3, 0), (5, 3, 1), (1, 0, OUTSIDE), (4, 0, OUTSIDE)] {
+        tables.items.rows[3] = [owner, 1, 0];
+        let (rule, set) = if owner == 4 {
+            (OWNER_LINE, 7)
+        } else {
+            (OWN_LINE, 8)
+        };
+        assert_explains(&tables, ([4, 7, 4], [rule, 0, set, 1, role_set, 11, steps]));
+    }
+    tables.grants.rows[0] = [4, 7, 0, 0, 3];
+    tables.items.rows[3] = [5, 1, 0];
+    assert_explains(&tables, ([4, 7, 4], [OWN_LINE, 0, 8, 1, 3, 11, 3]));
+}
+
+fn steps_up(tables: &Tables, subject: u32, root: u32) -> (u32, u32) {
+    answer(&mut tables.image(), Call::StepsUp { subject, root })
+}
+
+/// 5 is below 2, 2 below 1, and 4 below 3. 1 and 3 are directly below the custodian.
+#[test]
+fn steps_up_to_each() {
+    let far = [
+        [0, OUTSIDE, OUTSIDE, OUTSIDE, OUTSIDE, OUTSIDE],
+        [1, 0, OUTSIDE, OUTSIDE, OUTSIDE, OUTSIDE],
+        [2, 1, 0, OUTSIDE, OUTSIDE, OUTSIDE],
+        [1, OUTSIDE, OUTSIDE, 0, OUTSIDE, OUTSIDE],
+        [2, OUTSIDE, OUTSIDE, 1, 0, OUTSIDE],
+        [3, 2, 1, OUTSIDE, OUTSIDE, 0],
+    ];
+    for (subject, far) in (0..).zip(far) {
+        for (root, steps) in (0..).zip(far) {
+            let answered = steps_up(&sample(), subject, root);
+            assert_eq!(answered, accepted(steps), "{subject} to {root}");
+        }
+    }
+}
+
+/// 4 was created by the custodian and 5 by 1. That does not count.
+#[test]
+fn steps_count_parents() {
+    let mut tables = sample();
+    for creator in 0..4 {
+        tables.subjects.rows[4] = [3, 0, creator];
+        assert_eq!(steps_up(&tables, 4, 3), accepted(1));
+        assert_eq!(steps_up(&tables, 4, 0), accepted(2));
+        assert_eq!(steps_up(&tables, 4, 1), accepted(OUTSIDE));
+    }
+}
+
+/// The image is asked about first, then both subjects. There is no caller.
+#[test]
+fn steps_refused() {
+    for unknown in [6, 7, u32::MAX - 1, u32::MAX] {
+        assert_eq!(steps_up(&sample(), unknown, 0), refused(11));
+        assert_eq!(steps_up(&sample(), 0, unknown), refused(11));
+        assert_eq!(steps_up(&sample(), unknown, unknown), refused(11));
+    }
+    let short = &mut sample().image()[..35];
+    let call = Call::StepsUp {
+        subject: 6,
+        root: 6,
+    };
+    assert_eq!(answer(short, call), refused(1));
 }
 
 fn assert_explains(tables: &Tables, (asked, explained): Explained) {
-    let [rule, group, rule_set, everyone_set, role_set, operations] = explained;
+    let [rule, group, rule_set, everyone_set, role_set, operations, steps] = explained;
     let explanation = Explanation {
         number: 0,
         rule,
@@ -276,6 +350,7 @@ fn assert_explains(tables: &Tables, (asked, explained): Explained) {
         everyone_set,
         role_set,
         operations,
+        steps,
     };
     assert_answered(tables, asked, explanation);
 }

@@ -1,6 +1,6 @@
 //! A call with its arguments, made on the library, on the twin or on the yardstick.
 
-use super::explanation::Explanation;
+use super::explanation::{Explanation, OUTSIDE};
 use crate::{twin, yardstick};
 use dacm::{Flags, Item, Kind, Privileges, Refusal, Role, Subject};
 use std::ops::Range;
@@ -18,6 +18,7 @@ pub enum Call {
     ListCount { list: u32 },
     LinesOf { list: u32 },
     FindEditor { list: u32 },
+    StepsUp { subject: u32, root: u32 },
     DefineSubject { caller: u32, role: u32, parent: u32, privileges: u32 },
     SetGrant { caller: u32, receiver: u32, role: u32, domain: u32, privileges: u32 },
     RemoveGrant { caller: u32, receiver: u32, role: u32 },
@@ -126,6 +127,7 @@ macro_rules! outcomes_of {
                     everyone_set: answer.everyone_set,
                     role_set: answer.role_set,
                     operations: answer.operations,
+                    steps: answer.steps,
                 };
                 explanation.into()
             }
@@ -158,6 +160,8 @@ macro_rules! made_on {
                 lines_at($module::list_start(image, list), $module::list_count(image, list).into()),
             Call::FindEditor { list } =>
                 $module::find_editor(image, list).into(),
+            Call::StepsUp { subject, root } =>
+                $module::steps_up(image, subject, root).into(),
             Call::DefineSubject { caller, role, parent, privileges } =>
                 $module::define_subject(image, caller, role, parent, privileges).into(),
             Call::SetGrant { caller, receiver, role, domain, privileges } =>
@@ -179,7 +183,7 @@ macro_rules! made_on {
 }
 
 impl Call {
-    pub const NAMES: [&'static str; 16] = [
+    pub const NAMES: [&'static str; 17] = [
         // Those that ask.
         "check",
         "operation_set",
@@ -189,6 +193,7 @@ impl Call {
         "list_count",
         "lines_of",
         "find_editor",
+        "steps_up",
         // Those that write subjects and grants.
         "define_subject",
         "set_grant",
@@ -203,7 +208,7 @@ impl Call {
     ];
 
     /// The first of the names above whose call writes the image.
-    pub const FIRST_WRITING: usize = 8;
+    pub const FIRST_WRITING: usize = 9;
 
     /// Which of the names above is the call's.
     fn index(&self) -> usize {
@@ -216,14 +221,15 @@ impl Call {
             Call::ListCount { .. } => 5,
             Call::LinesOf { .. } => 6,
             Call::FindEditor { .. } => 7,
-            Call::DefineSubject { .. } => 8,
-            Call::SetGrant { .. } => 9,
-            Call::RemoveGrant { .. } => 10,
-            Call::SetLine { .. } => 11,
-            Call::RemoveLine { .. } => 12,
-            Call::CreateItem { .. } => 13,
-            Call::Bind { .. } => 14,
-            Call::HandOver { .. } => 15,
+            Call::StepsUp { .. } => 8,
+            Call::DefineSubject { .. } => 9,
+            Call::SetGrant { .. } => 10,
+            Call::RemoveGrant { .. } => 11,
+            Call::SetLine { .. } => 12,
+            Call::RemoveLine { .. } => 13,
+            Call::CreateItem { .. } => 14,
+            Call::Bind { .. } => 15,
+            Call::HandOver { .. } => 16,
         }
     }
 
@@ -255,6 +261,8 @@ impl Call {
                 lines_of_library(image, list),
             Call::FindEditor { list } =>
                 with_result(dacm::find_editor(image, Item(list)).map(|editor| editor.0)),
+            Call::StepsUp { subject, root } =>
+                with_result(dacm::steps_up(image, Subject(subject), Subject(root)).map(|steps| steps.unwrap_or(OUTSIDE))),
             _ => panic!("{self:?} does not only ask"),
         }
     }

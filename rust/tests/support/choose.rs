@@ -41,6 +41,7 @@ impl Chooser<'_> {
             "list_count" => Call::ListCount { list: self.list() },
             "lines_of" => Call::LinesOf { list: self.list() },
             "find_editor" => Call::FindEditor { list: self.list() },
+            "steps_up" => self.steps_up(),
             "define_subject" => self.define_subject(),
             "set_grant" => self.set_grant(),
             "remove_grant" => self.remove_grant(),
@@ -98,6 +99,13 @@ impl Chooser<'_> {
             role,
             parent: self.subject(),
             privileges: privileges(self.random),
+        }
+    }
+
+    fn steps_up(&mut self) -> Call {
+        Call::StepsUp {
+            subject: self.subject(),
+            root: self.subject(),
         }
     }
 

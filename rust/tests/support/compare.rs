@@ -2,12 +2,13 @@
 //! leaves compared.
 
 use super::call::{Call, Outcome};
-use super::explanation::Question;
+use super::explanation::{Question, OUTSIDE};
 use super::holders::assert_counts_hold;
+use super::tables::Tables;
 
 /// Makes the call on the library, on the twin and on the yardstick. All must answer the same and
 /// leave the same bytes. If the call is refused or only asks, these must be the bytes from before.
-/// An explanation and counts must also hold of the image. Afterwards the image is as the call left
+/// An explanation, counts and steps must also hold of the image. Afterwards the image is as the call left
 /// it.
 pub fn compare(image: &mut [u8], call: &Call, seed: &str) -> Outcome {
     compare_made_by(image, call, seed, |image| call.on_library(image))
@@ -44,6 +45,11 @@ pub fn compare_made_by(
     }
     if let Call::CountHolders { item, .. } = *call {
         assert_counts_hold(&before, item, &ours, seed);
+    }
+    if let (Call::StepsUp { subject, root }, 0) = (*call, ours.number) {
+        let lead_there = Tables::read(&before).steps_up(subject, root);
+        let steps = lead_there.unwrap_or(OUTSIDE);
+        assert_eq!(ours.result, steps, "{seed}: {call:?}");
     }
     ours
 }

@@ -15,6 +15,7 @@ const QUESTIONS: [&[u32]; Call::NAMES.len()] = [
     /* list_count     */ &[13],
     /* lines_of       */ &[13],
     /* find_editor    */ &[13, 20],
+    /* steps_up       */ &[11],
     /* define_subject */ &[10, 11, 15, 16, 19],
     /* set_grant      */ &[10, 11, 14, 16, 18, 19],
     /* remove_grant   */ &[10, 11, 14, 17, 18],

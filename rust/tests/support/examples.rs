@@ -1,18 +1,19 @@
 //! Which explanations a test saw, so that it can demand one of each sort.
 
 use super::explanation::{
-    Explanation, Question, CUSTODIAN, GROUP_LINE, NOTHING_FOUND, OWNER_LINE, OWN_LINE,
+    Explanation, Question, CUSTODIAN, GROUP_LINE, NOTHING_FOUND, OUTSIDE, OWNER_LINE, OWN_LINE,
 };
 use super::sample::EVERYONE;
 use super::tables::Tables;
 use std::collections::BTreeSet;
 
-/// An explanation, whether the asker owns the item, and what the list's line for everyone gives, 0
-/// without one.
+/// An explanation, whether the asker owns the item, what the list's line for everyone gives, 0 without
+/// one, and the domain of the grant.
 struct Example<'a> {
     explanation: &'a Explanation,
     owns: bool,
     everyone: u32,
+    domain: Option<u32>,
 }
 
 /// What a sort is called, and whether an example is of it.
@@ -20,7 +21,7 @@ type Sort = (&'static str, fn(&Example) -> bool);
 
 /// What there must be an example of.
 #[rustfmt::skip]
-const SORTS: [Sort; 16] = [
+const SORTS: [Sort; 20] = [
     ("the custodian", |it| it.rule() == CUSTODIAN),
     ("the custodian, whom everyone's line does not concern", |it| it.rule() == CUSTODIAN && it.everyone != 0),
     ("the custodian under a role", |it| it.rule() == CUSTODIAN && it.explanation.role_set != 0),
@@ -37,6 +38,10 @@ const SORTS: [Sort; 16] = [
     ("nothing found", |it| it.rule() == NOTHING_FOUND && it.everyone == 0),
     ("nothing found but everyone's line", |it| it.rule() == NOTHING_FOUND && it.everyone != 0),
     ("a role's part that the operation set cuts", |it| it.explanation.role_set & !it.explanation.operations != 0),
+    ("a role that is not granted", |it| it.domain.is_none() && it.explanation.steps == OUTSIDE),
+    ("an owner outside of the domain", |it| it.domain.is_some() && it.explanation.steps == OUTSIDE),
+    ("an owner who is the domain", |it| it.explanation.steps == 0),
+    ("an owner some steps below the domain", |it| (2..OUTSIDE).contains(&it.explanation.steps)),
 ];
 
 impl Example<'_> {
@@ -64,6 +69,7 @@ impl Examples {
             explanation,
             owns: tables.owner_of(question.item) == question.subject,
             everyone: tables.line(list, EVERYONE, 0).unwrap_or(0),
+            domain: tables.domain_of(question.subject, question.role),
         };
         let sorts = SORTS.iter().filter(|(_, holds)| holds(&example));
         self.0.extend(sorts.map(|(sort, _)| sort));

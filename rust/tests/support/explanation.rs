@@ -24,7 +24,11 @@ pub struct Explanation {
     pub everyone_set: u32,
     pub role_set: u32,
     pub operations: u32,
+    pub steps: u32,
 }
+
+/// The number that is answered for steps where there are none.
+pub const OUTSIDE: u32 = 4_294_967_295;
 
 impl Explanation {
     pub fn refused(number: u32) -> Explanation {
@@ -47,6 +51,7 @@ impl From<Result<dacm::Explanation, Refusal>> for Explanation {
                 everyone_set: explanation.everyone_set.0,
                 role_set: explanation.role_set.0,
                 operations: explanation.operations.0,
+                steps: explanation.steps.unwrap_or(OUTSIDE),
             },
             Err(refusal) => Explanation::refused(refusal.number()),
         }
@@ -98,6 +103,7 @@ impl Question {
             let tables = &Tables::read(image);
             self.assert_lines_are_there(tables, explanation, &case);
             self.assert_first_decided(tables, explanation.rule, &case);
+            self.assert_steps_lead_there(tables, explanation.steps, &case);
         }
     }
 
@@ -164,6 +170,14 @@ impl Question {
         if rule > OWN_LINE {
             assert_eq!(tables.line(list, ITSELF, self.subject), None, "{case}");
         }
+    }
+
+    /// The steps are those from the item's owner to the domain of the grant, if it is among the rows.
+    fn assert_steps_lead_there(self, tables: &Tables, steps: u32, case: &str) {
+        let owner = tables.owner_of(self.item);
+        let domain = tables.domain_of(self.subject, self.role);
+        let lead_there = domain.and_then(|domain| tables.steps_up(owner, domain));
+        assert_eq!(steps, lead_there.unwrap_or(OUTSIDE), "{case}");
     }
 
     fn assert_line(self, tables: &Tables, kind: u32, subject: u32, privileges: u32, case: &str) {

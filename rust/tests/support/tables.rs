@@ -1,5 +1,7 @@
 //! Images made from rows, and the rows of an accepted image.
 
+use std::iter::successors;
+
 pub const HEADER_BYTES: usize = 36;
 const FIELD_BYTES: usize = 4;
 
@@ -99,14 +101,28 @@ impl Tables {
         self.lines.rows.iter().find(is_it).map(|row| row[3])
     }
 
+    /// The domain of a grant, if there is one. Role 0 is never granted.
+    pub fn domain_of(&self, receiver: u32, role: u32) -> Option<u32> {
+        let is_it = |row: &&[u32; 5]| row[..2] == [receiver, role];
+        self.grants.rows.iter().find(is_it).map(|row| row[3])
+    }
+
+    /// How many steps it is from a subject up to the head of a tree: where the head stands on the whole
+    /// way from the subject to the custodian.
+    pub fn steps_up(&self, subject: u32, head: u32) -> Option<u32> {
+        let parent = |&reached: &u32| match reached {
+            0 => None,
+            _ => Some(self.subjects.rows[reached as usize][0]),
+        };
+        let mut way_up = (0..).zip(successors(Some(subject), parent));
+        way_up
+            .find(|(_, reached)| *reached == head)
+            .map(|(steps, _)| steps)
+    }
+
     /// Is the subject the head or below it?
     pub fn in_tree(&self, subject: u32, head: u32) -> bool {
-        let mut reached = subject;
-        while reached > head {
-            let [parent, _, _] = self.subjects.rows[reached as usize];
-            reached = parent;
-        }
-        reached == head
+        self.steps_up(subject, head).is_some()
     }
 }
 

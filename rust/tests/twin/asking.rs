@@ -97,3 +97,14 @@ pub fn find_editor(image: &[u8], list: u32) -> Answer {
         others.find(may_edit).ok_or(Refused(20))
     })
 }
+
+/// How many steps the subject is below the root. There is no caller: question 11 is
+/// asked of both.
+pub fn steps_up(image: &[u8], subject: u32, root: u32) -> Answer {
+    answer(|| {
+        let image = Image::open(image)?;
+        ask(11, image.has_subject(subject))?;
+        ask(11, image.has_subject(root))?;
+        Ok(permission::steps_number(image.steps_up(subject, root)))
+    })
+}

@@ -145,14 +145,22 @@ impl<'a> Image<'a> {
         Some(Grant::read(&self.grants.used[row]))
     }
 
-    /// Is the subject `head` itself or below it? Each parent has a lower number
-    /// than its child, so the loop ends. It stops at the first number that is not
-    /// above `head`, because the parents beyond are lower still.
-    pub fn in_tree(&self, subject: u32, head: u32) -> bool {
+    /// How many steps it is from the subject up to `head`, from each to its parent.
+    /// Each parent has a lower number than its child, so the loop ends. It stops at
+    /// the first number that is not above `head`, because the parents beyond are
+    /// lower still.
+    pub fn steps_up(&self, subject: u32, head: u32) -> Option<u32> {
         let mut reached = subject;
+        let mut steps = 0;
         while reached > head {
             reached = self.subject(reached).parent;
+            steps += 1;
         }
-        reached == head
+        (reached == head).then_some(steps)
+    }
+
+    /// Is the subject `head` itself or below it?
+    pub fn in_tree(&self, subject: u32, head: u32) -> bool {
+        self.steps_up(subject, head).is_some()
     }
 }

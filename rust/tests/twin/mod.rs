@@ -23,7 +23,7 @@ mod table;
 #[allow(unused_imports)]
 pub use asking::{
     check, count_holders, explain, find_editor, list_count, list_start, operation_set,
-    permission_set,
+    permission_set, steps_up,
 };
 #[allow(unused_imports)]
 pub use changing::{
@@ -52,6 +52,7 @@ pub struct Explanation {
     pub everyone_set: u32,
     pub role_set: u32,
     pub operations: u32,
+    pub steps: u32,
 }
 
 /// The refusal: the number of the first question answered no.

@@ -117,10 +117,17 @@ pub fn permission_set(image: &Image, subject: u32, role: u32, item: Item) -> u32
     operation_set(image, subject, grant) & object_set(image, subject, grant, item)
 }
 
-/// What the permission set is made of, each as it is before it is put together.
+/// The number that is answered for steps: if there are none, the highest.
+pub fn steps_number(steps: Option<u32>) -> u32 {
+    steps.unwrap_or(4_294_967_295)
+}
+
+/// What the permission set is made of, each as it is before it is put together. And
+/// how far the item's owner is below the domain of the grant, if there is one.
 pub fn explain(image: &Image, subject: u32, role: u32, item: Item) -> Explanation {
     let grant = image.grant(subject, role);
     let rule = deciding_rule(image, subject, item);
+    let steps = grant.and_then(|grant| image.steps_up(item.owner, grant.domain));
     Explanation {
         number: 0,
         rule: rule.number,
@@ -129,5 +136,6 @@ pub fn explain(image: &Image, subject: u32, role: u32, item: Item) -> Explanatio
         everyone_set: everyone_set(image, subject, item),
         role_set: role_part(image, grant, item),
         operations: operation_set(image, subject, grant),
+        steps: steps_number(steps),
     }
 }

@@ -4,7 +4,7 @@ use super::editor;
 use super::holders;
 use super::opening::open;
 use super::permission;
-use super::rows::LineRow;
+use super::rows::{LineRow, OUTSIDE};
 use super::writing::LINES;
 use super::{Answer, Asked, Explanation, Question};
 
@@ -80,5 +80,15 @@ pub fn find_editor(image: &[u8], list: u32) -> Answer {
         let tables = open(image)?;
         let list = tables.list(list).ok_or(Question::List)?;
         editor::lowest(&tables, list).ok_or(Question::Editor)
+    })
+}
+
+/// How many steps up from the subject to the root.
+pub fn steps_up(image: &[u8], subject: u32, root: u32) -> Answer {
+    Answer::to(|| {
+        let tables = open(image)?;
+        let both = tables.has_subject(subject) && tables.has_subject(root);
+        Question::OtherSubjects.ask(both)?;
+        Ok(tables.tree().steps_up(subject, root).unwrap_or(OUTSIDE))
     })
 }

@@ -27,7 +27,7 @@ mod writing;
 #[allow(unused_imports)]
 pub use asking::{
     check, count_holders, explain, find_editor, list_count, list_start, operation_set,
-    permission_set,
+    permission_set, steps_up,
 };
 #[allow(unused_imports)]
 pub use changing::{
@@ -58,6 +58,8 @@ pub struct Explanation {
     pub everyone_set: u32,
     pub role_set: u32,
     pub operations: u32,
+    /// From the item's owner up to the grant's domain.
+    pub steps: u32,
 }
 
 /// A call's result, or the first question that is answered no.

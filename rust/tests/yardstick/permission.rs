@@ -1,7 +1,7 @@
 //! How a permission is found, on an accepted image.
 
 use super::list::List;
-use super::rows::{Grant, Item, ALL, CUSTODIAN};
+use super::rows::{Grant, Item, ALL, CUSTODIAN, OUTSIDE};
 use super::tables::Tables;
 use super::tree::Tree;
 use super::Explanation;
@@ -32,23 +32,24 @@ pub fn explain(tables: &Tables, subject: u32, role: u32, item: Item) -> Explanat
     let list = tables.list_of(item);
     let grant = tables.grant(subject, role);
     let decision = list.decision(tree, subject, item.owner);
+    let steps = grant.and_then(|grant| tree.steps_up(item.owner, grant.domain));
     Explanation {
         number: 0,
         rule: decision.rule as u32,
         group: decision.group,
         rule_set: decision.privileges,
         everyone_set: list.everyone_set(subject),
-        role_set: role_part(tree, &list, grant, item.owner),
+        role_set: role_part(tree, &list, grant, item.owner, steps),
         operations: operation_set(tables, subject, grant),
+        steps: steps.unwrap_or(OUTSIDE),
     }
 }
 
-/// Of the grant what its grantor's lines' part has too, if the item's owner is in the domain's tree.
-fn role_part(tree: Tree, list: &List, grant: Option<Grant>, owner: u32) -> u32 {
-    match grant {
-        Some(grant) if tree.is_in(owner, grant.domain) => {
-            grant.privileges & list.part(tree, grant.grantor, owner)
-        }
+/// Of the grant what its grantor's lines' part has too, if the item's owner is some steps below the
+/// domain.
+fn role_part(tree: Tree, list: &List, grant: Option<Grant>, owner: u32, steps: Option<u32>) -> u32 {
+    match (grant, steps) {
+        (Some(grant), Some(_)) => grant.privileges & list.part(tree, grant.grantor, owner),
         _ => 0,
     }
 }

@@ -14,6 +14,9 @@ pub const NO_ROLE: u32 = 0;
 pub const NO_LIST: u32 = 0;
 pub const ALL: u32 = u32::MAX;
 
+/// Answered for steps where there are none.
+pub const OUTSIDE: u32 = u32::MAX;
+
 /// How many positions a privilege set has.
 pub const POSITIONS: usize = 32;
 

@@ -2,14 +2,20 @@
 
 use super::rows::{Subject, SubjectRow};
 
-/// Climbs of at most so many steps are just made, and not counted.
-const SHORT_CLIMB: usize = 8;
+/// Climbs of at most so many steps are no effort.
+const SHORT_CLIMB: u32 = 8;
 
 /// Steps up a chain that take as long as one step elsewhere.
 const CHAIN_STEPS: usize = 4;
 
 /// An index takes about as long as this many steps for each subject.
 const INDEX_STEPS: usize = 3;
+
+/// Where a climb ended, and how many steps it had.
+struct Climb {
+    reached: u32,
+    steps: u32,
+}
 
 /// The subjects of an accepted image, by their parents.
 #[derive(Clone, Copy)]
@@ -36,44 +42,55 @@ impl<'a> Tree<'a> {
         self.climb(subject, head) == head
     }
 
+    /// How many steps from the subject up to the head, if it is in its tree.
+    pub fn steps_up(self, subject: u32, head: u32) -> Option<u32> {
+        let climb = self.climb_counting(subject, head, &mut 0);
+        (climb.reached == head).then_some(climb.steps)
+    }
+
     /// From a subject upward, the first number that is not above the bound.
     #[inline]
     pub fn climb(self, from: u32, bound: u32) -> u32 {
-        self.climb_counting(from, bound, &mut 0)
+        self.climb_counting(from, bound, &mut 0).reached
     }
 
-    /// The same. If the climb is long, adds its steps to those counted already.
+    /// The same with its steps. If the climb is long, adds the effort to what there was already.
     #[inline]
-    fn climb_counting(self, from: u32, bound: u32, steps: &mut usize) -> u32 {
+    fn climb_counting(self, from: u32, bound: u32, effort: &mut usize) -> Climb {
         let mut reached = from;
-        for _ in 0..SHORT_CLIMB {
+        for steps in 0..SHORT_CLIMB {
             if reached <= bound {
-                return reached;
+                return Climb { reached, steps };
             }
             reached = self.parent(reached);
         }
-        self.climb_far(reached, bound, steps)
+        self.climb_far(reached, bound, effort)
     }
 
-    /// Looks out for chains, in which each subject is directly below the one before it.
+    /// Goes on after a short climb. Looks out for chains, in which each subject is directly below the
+    /// one before it.
     #[cold]
-    fn climb_far(self, from: u32, bound: u32, steps: &mut usize) -> u32 {
+    fn climb_far(self, from: u32, bound: u32, effort: &mut usize) -> Climb {
         let mut reached = from;
+        let mut steps = SHORT_CLIMB;
         while reached > bound {
             let parent = self.parent(reached);
-            *steps += 1;
+            *effort += 1;
+            steps += 1;
             reached = if parent + 1 == reached {
-                self.climb_chain(parent, bound, steps)
+                let end = self.climb_chain(parent, bound, effort);
+                steps += parent - end;
+                end
             } else {
                 parent
             };
         }
-        reached
+        Climb { reached, steps }
     }
 
     /// Climbs to where a chain ends. Its rows are read one after the other: where the next row is does
     /// not depend on the parent in this one, so the processor need not wait for it.
-    fn climb_chain(self, from: u32, bound: u32, steps: &mut usize) -> u32 {
+    fn climb_chain(self, from: u32, bound: u32, effort: &mut usize) -> u32 {
         let rows = &self.subjects[bound as usize + 1..=from as usize];
         let below_before = |(before, row): &(u32, &SubjectRow)| Subject::of(row).parent == *before;
         let climbed = (bound..from)
@@ -81,7 +98,7 @@ impl<'a> Tree<'a> {
             .rev()
             .take_while(below_before)
             .count();
-        *steps += climbed / CHAIN_STEPS;
+        *effort += climbed / CHAIN_STEPS;
         from - climbed as u32
     }
 
@@ -111,7 +128,7 @@ impl<'a> Tree<'a> {
 /// short. Once they have taken about as long as an index would, an index answers the others.
 pub struct Climbs<'a> {
     tree: Tree<'a>,
-    steps: usize,
+    effort: usize,
     index: Option<Index>,
 }
 
@@ -119,7 +136,7 @@ impl<'a> Climbs<'a> {
     pub fn new(tree: Tree<'a>) -> Climbs<'a> {
         Climbs {
             tree,
-            steps: 0,
+            effort: 0,
             index: None,
         }
     }
@@ -130,11 +147,11 @@ impl<'a> Climbs<'a> {
         if let Some(index) = &self.index {
             return index.is_in(subject, head);
         }
-        let reached = self.tree.climb_counting(subject, head, &mut self.steps);
-        if self.steps > INDEX_STEPS * self.tree.len() {
+        let climb = self.tree.climb_counting(subject, head, &mut self.effort);
+        if self.effort > INDEX_STEPS * self.tree.len() {
             self.index = Some(self.tree.index());
         }
-        reached == head
+        climb.reached == head
     }
 }
 
