@@ -10,7 +10,7 @@ use model::refusal;
 use tables::subjects::subject_used;
 
 // Counts the steps from a subject up to the root of a tree, from each subject to its parent. The result is 0 for the root
-// itself, and 4294967295 for a subject that is outside the tree. Nobody is asked to be the caller.
+// itself, and 4294967295 for a subject that is outside the tree. The call has no caller.
 pub fn steps_up(image: &[u8], subject: Subject, root: Subject) -> Answer
     ensures { λ r. ⌜ r ≡ ask (now (image .entry)) (countSteps (subject .0) (root .0)) ⌝ }
 {

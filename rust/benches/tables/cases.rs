@@ -54,6 +54,7 @@ fn sample_case() -> Case {
             call("explain, under a role", explanation_of(4, 7, 2)),
             call("count holders", holders_on(2)),
             call("editor search, there is none", editor_of(1)),
+            call("steps up", steps_of(5)),
             call("set line, overwrites", overwriting(&tables)),
             call("set line, inserts", inserting(&tables)),
             call("remove line", removing(&tables)),
@@ -87,6 +88,7 @@ fn mixed_case() -> Case {
             ),
             call("count holders", holders_on(item)),
             call("editor search, the last subject", editor_of(list)),
+            call("steps up, the deepest", steps_of(deepest_in(&tables))),
             call("set line, overwrites", overwriting(&tables)),
             call("set line, inserts", inserting(&tables)),
             call("remove line", removing(&tables)),
@@ -115,6 +117,8 @@ fn chain_case() -> Case {
             call("explain, the deepest", explanation_of(deepest, NO_ROLE, 2)),
             call("count holders", holders_on(2)),
             call("editor search, the last subject", editor_of(1)),
+            call("steps up, half way down", steps_of(deepest / 2)),
+            call("steps up, the deepest", steps_of(deepest)),
             call("set line, overwrites", overwriting(&tables)),
             call("set line, inserts", inserting(&tables)),
             call("remove line", removing(&tables)),
@@ -242,6 +246,14 @@ fn editor_of(list: u32) -> Call {
     Call::FindEditor { list }
 }
 
+/// Up to the custodian.
+fn steps_of(subject: u32) -> Call {
+    Call::StepsUp {
+        subject,
+        root: CUSTODIAN,
+    }
+}
+
 /// Sets the line in the middle of the table.
 fn overwriting(tables: &Tables) -> Call {
     let [list, kind, subject, _] = middle(&tables.lines.rows);
@@ -320,6 +332,13 @@ fn role_that_counts(tables: &Tables, item: u32) -> [u32; 2] {
         .find(|[_, _, grantor, domain, _]| *grantor != CUSTODIAN && tables.in_tree(owner, *domain))
         .map(|[receiver, role, ..]| [*receiver, *role])
         .expect("some domain has the item's owner")
+}
+
+/// The subject from which the most steps lead up to the custodian.
+fn deepest_in(tables: &Tables) -> u32 {
+    (0..tables.subjects.used() as u32)
+        .max_by_key(|&subject| tables.steps_up(subject, CUSTODIAN))
+        .expect("the custodian is there")
 }
 
 /// A subject that has no line of its own, on the list of the line in the middle of the table.
