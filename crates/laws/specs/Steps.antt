@@ -46,10 +46,13 @@ module _ (up : ℕ → ℕ) where
   steps-next s h n e =
       elim (eq-or-ne s h) [
         | inl here ↦ absurd (omega (arith, Option·some-injective 0 (suc n) (sym (steps-up up h s ∙ rw (eq-eqb s h here)) ∙ e)))
-        | inr other ↦ (other, elim (two (ltb (up s) s)) [
-          | inl low ↦ (ltb-true (up s) s low, go (stepsUp up (up s) h) (sym (steps-up up h s ∙ rw (ne-eqb s h other, low)) ∙ e))
-          | inr high ↦ absurd (Option·none-ne-some (suc n) (sym (steps-up up h s ∙ rw (ne-eqb s h other, high)) ∙ e))
-        ])
+        | inr other ↦ (
+          other,
+          elim (two (ltb (up s) s)) [
+            | inl low ↦ (ltb-true (up s) s low, go (stepsUp up (up s) h) (sym (steps-up up h s ∙ rw (ne-eqb s h other, low)) ∙ e))
+            | inr high ↦ absurd (Option·none-ne-some (suc n) (sym (steps-up up h s ∙ rw (ne-eqb s h other, high)) ∙ e))
+          ],
+        )
       ]
     where
       go : (o : Option ℕ) → Option·map suc o ≡ some (suc n) → o ≡ some n
