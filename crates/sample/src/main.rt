@@ -6,6 +6,7 @@ mod editors;
 mod owners;
 mod printing;
 mod questions;
+mod steps;
 mod strangers;
 mod workshop;
 
@@ -16,5 +17,6 @@ fn main() {
     changes::print_changes();
     owners::print_owners();
     editors::print_editors();
+    steps::print_steps();
     strangers::print_strangers();
 }

@@ -18,7 +18,7 @@ use model::Role;
 use model::Subject;
 
 // The twelve permission sets, each with its explanation, two explanations that are refused, the holders on each item, and one
-// case of each other call that asks but `check` and the editor search.
+// case of each other call that asks but `check`, the editor search and the steps.
 pub fn print_questions(image: &[u8]) {
     print_case(image, 2, 0, 2);
     print_case(image, 2, 0, 3);
@@ -94,6 +94,7 @@ fn print_explanation(image: &[u8], subject: u32, role: u32, item: u32) {
     print_number(b" everyone_set ", why.everyone_set);
     print_number(b" role_set ", why.role_set);
     print_number(b" operations ", why.operations);
+    print_number(b" steps ", why.steps);
     end_line();
 }
 
