@@ -30,9 +30,9 @@ extern "C" {
 
 /* The version of this header. */
 #define DACM_VERSION_MAJOR 0
-#define DACM_VERSION_MINOR 5
+#define DACM_VERSION_MINOR 6
 #define DACM_VERSION_PATCH 0
-#define DACM_VERSION "0.5.0"
+#define DACM_VERSION "0.6.0"
 
 /* The stack that a call may need. */
 #define DACM_STACK_BYTES 524288
@@ -55,7 +55,7 @@ typedef struct { uint32_t number; uint32_t result; } dacm_answer;
 #define DACM_BAD_GRANT_ROW       UINT32_C(6)  /* a grant row breaks a rule, or the grants are not sorted */
 #define DACM_UNUSED_ROW_NOT_ZERO UINT32_C(7)  /* a free row is not all zeros */
 #define DACM_UNKNOWN_CALLER      UINT32_C(10) /* the caller or asker is not in use */
-#define DACM_UNKNOWN_SUBJECT     UINT32_C(11) /* another subject is not in use */
+#define DACM_UNKNOWN_SUBJECT     UINT32_C(11) /* a subject other than the caller or asker is not in use */
 #define DACM_UNKNOWN_ITEM        UINT32_C(12) /* the item is not in use */
 #define DACM_BAD_COUNTS_LENGTH   UINT32_C(21) /* the counts do not have exactly DACM_POSITIONS entries */
 #define DACM_NOT_A_LIST          UINT32_C(13) /* the list is not in use, or is no access list */
@@ -97,6 +97,9 @@ typedef struct { uint32_t number; uint32_t result; } dacm_answer;
 #define DACM_RULE_GROUP_LINE    UINT32_C(4) /* the list has a line for a group above the subject; the nearest decides */
 #define DACM_RULE_NOTHING_FOUND UINT32_C(5) /* there is no such line, or no list */
 
+/* The number for steps of a subject that is outside of the tree. No count of steps is as high. */
+#define DACM_STEPS_OUTSIDE UINT32_C(0xffffffff)
+
 /*
  * Which rule decided, and what makes up the permission set: it is the privileges in `operations` that are also in
  * `rule_set`, `everyone_set` or `role_set`. A refused call has 0 in every field but the number. A newer version may
@@ -110,6 +113,8 @@ typedef struct {
     uint32_t everyone_set; /* what the line for everyone adds: 0 without such a line, and for the custodian */
     uint32_t role_set;     /* what the role adds on this item, whether or not it is in the operation set */
     uint32_t operations;   /* the operation set */
+    uint32_t steps;        /* from the item's owner up to the grant's domain, as dacm_steps_up counts them;
+                              DACM_STEPS_OUTSIDE also where the role is not granted */
 } dacm_explanation;
 
 /* The calls that ask. */
@@ -142,6 +147,12 @@ size_t dacm_list_start(const uint8_t *image, size_t length, dacm_item list);
 
 /* Result: the lowest subject other than the custodian that may edit a list without claiming a role. */
 dacm_answer dacm_find_editor(const uint8_t *image, size_t length, dacm_item list);
+
+/*
+ * Result: how many steps lead from a subject up to the root of a tree, from each subject to its parent. 0 for the root
+ * itself, DACM_STEPS_OUTSIDE for a subject that is outside of its tree. Both must be in use; there is no caller.
+ */
+dacm_answer dacm_steps_up(const uint8_t *image, size_t length, dacm_subject subject, dacm_subject root);
 
 /* The calls that change the tables. */
 

@@ -97,7 +97,7 @@ refusals! {
     10 UnknownCaller: "the caller or asker is not in use";
 
     /// Another subject is not in use: the parent, the receiver, the domain, the subject of the line,
-    /// or the new owner.
+    /// the new owner, or one of the two between which steps are counted.
     11 UnknownSubject: "another subject named is not in use";
 
     /// The item is not in use. The first item has number 1.

@@ -116,6 +116,8 @@ fn the_names_of_the_header() {
             Rule::GroupLine(Subject::CUSTODIAN).number(),
         ),
         ("RULE_NOTHING_FOUND", Rule::NothingFound.number()),
+        // In the crate, steps are an `Option`.
+        ("STEPS_OUTSIDE", u32::MAX),
     ];
     let others = others.map(|(name, number)| (name.to_string(), number));
     let in_header: BTreeMap<String, u32> = numbers.collect();

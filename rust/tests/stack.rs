@@ -154,6 +154,25 @@ fn under_a_role() {
     assert_eq!(explanation.role_set, Privileges::READ);
 }
 
+/// Steps are counted in a loop, from the deepest subject up to the custodian, also for an explanation: the
+/// deepest subject owns the item, and the role is granted over everybody.
+#[test]
+fn steps_from_the_deepest() {
+    let grant = || vec![[1, 7, 0, 0, ALL]];
+    let mut tables = chain(grant(), vec![]);
+    let deepest = tables.subjects.used() as u32 - 1;
+    tables.items.rows[0][0] = deepest;
+    let image = tables.image();
+    let (steps, explained) = on_promised_stack(move || {
+        let steps = dacm::steps_up(&image, Subject(deepest), Subject::CUSTODIAN);
+        (steps, dacm::explain(&image, Subject(1), Role(7), Item(1)))
+    });
+    assert_eq!(steps, Ok(Some(deepest)));
+    let explanation = explained.expect("subject and item are in use");
+    assert_eq!(explanation.steps, Some(deepest));
+    assert_eq!(explanation.role_set, Privileges::ALL);
+}
+
 /// The header promises the same stack.
 #[test]
 fn the_header_says_so() {

@@ -79,7 +79,7 @@ static int same(dacm_explanation one, dacm_explanation other)
 {
     return one.number == other.number && one.rule == other.rule && one.group == other.group
         && one.rule_set == other.rule_set && one.everyone_set == other.everyone_set && one.role_set == other.role_set
-        && one.operations == other.operations;
+        && one.operations == other.operations && one.steps == other.steps;
 }
 
 static void explained(dacm_subject subject, dacm_role role, dacm_item item, dacm_explanation explanation)
@@ -102,30 +102,41 @@ static void unexplained(dacm_explanation answer, uint32_t number)
 static void explain(void)
 {
     fresh();
-    dacm_explanation custodians = {.rule = DACM_RULE_CUSTODIAN, .rule_set = DACM_ALL, .operations = DACM_ALL};
+    dacm_explanation custodians = {
+        .rule = DACM_RULE_CUSTODIAN, .rule_set = DACM_ALL, .operations = DACM_ALL, .steps = DACM_STEPS_OUTSIDE
+    };
     explained(custodian, no_role, document, custodians);
     explained(custodian, no_role, unlisted, custodians);
 
-    dacm_explanation owners = {.rule = DACM_RULE_OWNER_LINE, .rule_set = 7, .everyone_set = 1, .operations = 91};
+    dacm_explanation owners = {
+        .rule = DACM_RULE_OWNER_LINE, .rule_set = 7, .everyone_set = 1, .operations = 91, .steps = DACM_STEPS_OUTSIDE
+    };
     explained(second, no_role, document, owners);
 
-    dacm_explanation denied = {.rule = DACM_RULE_OWN_LINE, .rule_set = 0, .everyone_set = 1, .operations = 3};
+    dacm_explanation denied = {
+        .rule = DACM_RULE_OWN_LINE, .rule_set = 0, .everyone_set = 1, .operations = 3, .steps = DACM_STEPS_OUTSIDE
+    };
     explained(fifth, no_role, document, denied);
 
     dacm_explanation under_role = {
-        .rule = DACM_RULE_OWN_LINE, .rule_set = 8, .everyone_set = 1, .role_set = 3, .operations = 11
+        .rule = DACM_RULE_OWN_LINE, .rule_set = 8, .everyone_set = 1, .role_set = 3, .operations = 11, .steps = 0
     };
     explained(fourth, seventh, document, under_role);
 
     dacm_explanation by_group = {
-        .rule = DACM_RULE_GROUP_LINE, .group = first.number, .rule_set = 3, .everyone_set = 1, .operations = 91
+        .rule = DACM_RULE_GROUP_LINE, .group = first.number, .rule_set = 3, .everyone_set = 1, .operations = 91,
+        .steps = DACM_STEPS_OUTSIDE
     };
     explained(second, no_role, list, by_group);
 
-    dacm_explanation not_found = {.rule = DACM_RULE_NOTHING_FOUND, .everyone_set = 1, .operations = 73};
+    dacm_explanation not_found = {
+        .rule = DACM_RULE_NOTHING_FOUND, .everyone_set = 1, .operations = 73, .steps = DACM_STEPS_OUTSIDE
+    };
     explained(third, no_role, document, not_found);
 
-    dacm_explanation without_list = {.rule = DACM_RULE_NOTHING_FOUND, .operations = 91};
+    dacm_explanation without_list = {
+        .rule = DACM_RULE_NOTHING_FOUND, .operations = 91, .steps = DACM_STEPS_OUTSIDE
+    };
     explained(second, no_role, unlisted, without_list);
 
     unexplained(dacm_explain(image, 35, second, no_role, document), DACM_BAD_LENGTH);
@@ -220,6 +231,25 @@ static void ask(void)
     accepted(dacm_find_editor(image, LENGTH, list), second.number);
 }
 
+static void climb(void)
+{
+    fresh();
+    accepted(dacm_steps_up(image, LENGTH, fifth, fifth), 0);
+    accepted(dacm_steps_up(image, LENGTH, fifth, second), 1);
+    accepted(dacm_steps_up(image, LENGTH, fifth, first), 2);
+    accepted(dacm_steps_up(image, LENGTH, fifth, custodian), 3);
+    accepted(dacm_steps_up(image, LENGTH, first, fifth), DACM_STEPS_OUTSIDE);
+    accepted(dacm_steps_up(image, LENGTH, fifth, third), DACM_STEPS_OUTSIDE);
+    refused(dacm_steps_up(image, LENGTH, nobody, custodian), DACM_UNKNOWN_SUBJECT);
+    refused(dacm_steps_up(image, LENGTH, custodian, nobody), DACM_UNKNOWN_SUBJECT);
+    refused(dacm_steps_up(image, 35, nobody, nobody), DACM_BAD_LENGTH);
+
+    accepted(dacm_hand_over(image, LENGTH, custodian, document, fifth), 0);
+    expect(dacm_explain(image, LENGTH, fourth, seventh, document).steps == 1);
+    accepted(dacm_hand_over(image, LENGTH, custodian, document, first), 0);
+    expect(dacm_explain(image, LENGTH, fourth, seventh, document).steps == DACM_STEPS_OUTSIDE);
+}
+
 static void change_subjects_and_grants(void)
 {
     fresh();
@@ -291,6 +321,7 @@ int main(void)
 {
     ask();
     explain();
+    climb();
     count();
     change_subjects_and_grants();
     change_lines();
