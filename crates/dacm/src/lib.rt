@@ -2,7 +2,7 @@
 // arguments to the call of the same meaning and has that call's contract. An `Answer` is number 0 and the call's result, or
 // the refusal and result 0.
 ghost use mathlib.Core.Path.{_≡_};
-ghost use Rattle.model.specs.Calls.Ask.{checkImage, operationSetOf, permissionSetOf, listCount, findEditor, countSteps};
+ghost use Rattle.model.specs.Calls.Ask.{checkImage, operationSetOf, permissionSetOf, listCount, findEditor, stepsUpOf};
 ghost use Rattle.model.specs.Calls.Change.{defineSubject, setGrant, removeGrant, setLine, removeLine, createItem, bind, handOver};
 ghost use Rattle.model.specs.Questions.{ask, explain, countHolders, act, listStart};
 use model::Answer;
@@ -96,7 +96,7 @@ pub extern "C" fn dacm_find_editor(image: &[u8], list: Item) -> Answer
 // itself, and 4294967295 for a subject that is outside the tree.
 #[no_mangle]
 pub extern "C" fn dacm_steps_up(image: &[u8], subject: Subject, root: Subject) -> Answer
-    ensures { λ r. ⌜ r ≡ ask (now (image .entry)) (countSteps (subject .0) (root .0)) ⌝ }
+    ensures { λ r. ⌜ r ≡ ask (now (image .entry)) (stepsUpOf (subject .0) (root .0)) ⌝ }
 {
     asking::steps::steps_up(image, subject, root)
 }

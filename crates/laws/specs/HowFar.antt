@@ -18,7 +18,7 @@ use Rattle.model.specs.Image.{Tables, longestImage, noSubject, noItem, widthOf,
 use Rattle.model.specs.Image.{subjectIn, parentIn, subjectUsed, itemIn, itemUsed, subjectRules, itemRules, subjectsHold, itemsHold}
 use Rattle.model.specs.Permission.{grantOf, explanationUnder}
 use Rattle.model.specs.Calls.{askResult}
-use Rattle.model.specs.Calls.Ask.{countSteps}
+use Rattle.model.specs.Calls.Ask.{stepsUpOf}
 use Rattle.model.specs.Questions.{Question, imageQuestions, askQuestions, explainQuestions, check, ask, explain}
 use Rattle.laws.specs.Tests.{and-l, le-or-lt, every-at}
 use Rattle.laws.specs.Answers.{call-checked, call-passed, image-passed}
@@ -87,11 +87,11 @@ module _ (img : List ℕ) (checked : check img ≡ 0) where
 -- The call, and an explanation with a grant and without one.
 
 pub answered-steps : (img : List ℕ) (s h : ℕ)
-    → ask img (countSteps s h) .number ≡ 0
-    → HowFar (parentIn (tables img .subjects)) s h (ask img (countSteps s h) .result)
+    → ask img (stepsUpOf s h) .number ≡ 0
+    → HowFar (parentIn (tables img .subjects)) s h (ask img (stepsUpOf s h) .result)
 unfolding ask askQuestions askResult
 answered-steps img s h done =
-    let own : List Question = askQuestions (tables img) (countSteps s h) in
+    let own : List Question = askQuestions (tables img) (stepsUpOf s h) in
     rw done (far img (call-checked img own done) s h (call-passed img own done tt .0))
 
 module _ (img : List ℕ) (s r i : ℕ) (done : explain img s r i .number ≡ 0) where

@@ -25,7 +25,7 @@ pub data Ask : Type 0 where
   permissionSetOf : (subject role item : ℕ) → Ask
   listCount : (list : ℕ) → Ask
   findEditor : (list : ℕ) → Ask
-  countSteps : (subject root : ℕ) → Ask
+  stepsUpOf : (subject root : ℕ) → Ask
 
 -- The calls that write the image.
 pub data Change : Type 0 where
@@ -105,7 +105,7 @@ askResult t (operationSetOf s r) = operationSet t s r
 askResult t (permissionSetOf s r i) = permissionSet t s r i
 askResult t (listCount a) = length (rowsOf a (t .lines))
 askResult t (findEditor a) = Option·getD (lowestEditor t a) 0
-askResult t (countSteps s h) = stepsNumber (stepsUp (parentIn (t .subjects)) s h)
+askResult t (stepsUpOf s h) = stepsNumber (stepsUp (parentIn (t .subjects)) s h)
 
 -- The tables with the rows of one of them replaced and all else kept.
 

@@ -156,8 +156,8 @@ abbrev pub permissionSet : Tables → ℕ → ℕ → ℕ → ℕ
 permissionSet t s r i = permissionUnder t s (grantOf t s r) i
 
 -- The explanation of the permission set (document 02, P1): the deciding rule, the sets that are put together, the operation set,
--- which cuts them, and the steps from the item's owner up to the grant's domain (P6). First on an item whose row is x and under a grant that may be missing, then on item i, then under the
--- role that s claims.
+-- which cuts them, and the steps from the item's owner up to the grant's domain (P6). First on an item whose row is x and under
+-- a grant that may be missing, then on item i, then under the role that s claims.
 
 abbrev pub explanationOn : Tables → ℕ → Option GrantRow → ItemRow → Explanation
 explanationOn t s g x =

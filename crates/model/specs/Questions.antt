@@ -23,7 +23,7 @@ use Rattle.model.specs.Image.{itemIn, itemUsed, isList, isLocked, noneOr
 use Rattle.model.specs.Image.{layoutRules, subjectsHold, itemsHold, linesHold, grantsHold, unusedRules}
 use Rattle.model.specs.Permission.{grantOf, operationSet, permissionSet, explanation}
 use Rattle.model.specs.Calls.{Ask, Change, holderCounts, rowsOf, rowsBefore, lowestEditor, askResult, after, changeResult}
-use Rattle.model.specs.Calls.Ask.{checkImage, operationSetOf, permissionSetOf, listCount, findEditor, countSteps}
+use Rattle.model.specs.Calls.Ask.{checkImage, operationSetOf, permissionSetOf, listCount, findEditor, stepsUpOf}
 use Rattle.model.specs.Calls.Change.{defineSubject, setGrant, removeGrant, setLine, removeLine, createItem, bind, handOver}
 
 pub record Question : Type 0 where
@@ -63,7 +63,7 @@ askQuestions t (operationSetOf s r) = 10 asks subjectUsed (t .subjects) s ∷ []
 askQuestions t (permissionSetOf s r i) = 10 asks subjectUsed (t .subjects) s ∷ 12 asks itemUsed (t .items) i ∷ []
 askQuestions t (listCount a) = 13 asks isList (t .items) a ∷ []
 askQuestions t (findEditor a) = 13 asks isList (t .items) a ∷ 20 asks isThere (lowestEditor t a) ∷ []
-askQuestions t (countSteps s h) = 11 asks subjectUsed (t .subjects) s ∷ 11 asks subjectUsed (t .subjects) h ∷ []
+askQuestions t (stepsUpOf s h) = 11 asks subjectUsed (t .subjects) s ∷ 11 asks subjectUsed (t .subjects) h ∷ []
 
 unfoldable pub explainQuestions : Tables → ℕ → ℕ → List Question
 explainQuestions t s i = 10 asks subjectUsed (t .subjects) s ∷ 12 asks itemUsed (t .items) i ∷ []

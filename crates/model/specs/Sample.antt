@@ -13,7 +13,7 @@ use Rattle.model.specs.WhoAndWhat.{everything}
 use Rattle.model.specs.Image.{Tables, encode, subjectRow, grantRow, lineRow, itemRow}
 use Rattle.model.specs.Image.{itselfKind, groupKind, ownerKind, everyoneKind}
 use Rattle.model.specs.Calls.{after}
-use Rattle.model.specs.Calls.Ask.{permissionSetOf, findEditor, countSteps}
+use Rattle.model.specs.Calls.Ask.{permissionSetOf, findEditor, stepsUpOf}
 use Rattle.model.specs.Calls.Change.{setGrant, setLine, removeLine, handOver}
 use Rattle.model.specs.Questions.{answer, ask, refusedExplanation, explain, Counting, countHolders}
 
@@ -222,7 +222,7 @@ abbrev stepsCase : ℕ → ℕ → ℕ → ℕ → StepsCase
 stepsCase s h n k = record { subject = s; root = h; number = n; result = k }
 
 abbrev climbed : List ℕ → StepsCase → Answer
-climbed img c = ask img (countSteps (c .subject) (c .root))
+climbed img c = ask img (stepsUpOf (c .subject) (c .root))
 
 abbrev pub climbedRight : List ℕ → StepsCase → Bool
 climbedRight img c = eqb (climbed img c .number) (c .number) && eqb (climbed img c .result) (c .result)

@@ -262,7 +262,8 @@ impl Call {
             Call::FindEditor { list } =>
                 with_result(dacm::find_editor(image, Item(list)).map(|editor| editor.0)),
             Call::StepsUp { subject, root } =>
-                with_result(dacm::steps_up(image, Subject(subject), Subject(root)).map(|steps| steps.unwrap_or(OUTSIDE))),
+                with_result(dacm::steps_up(image, Subject(subject), Subject(root))
+                    .map(|steps| steps.unwrap_or(OUTSIDE))),
             _ => panic!("{self:?} does not only ask"),
         }
     }
