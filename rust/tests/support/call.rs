@@ -1,6 +1,6 @@
 //! A call with its arguments, made on the library, on the twin or on the yardstick.
 
-use super::explanation::{Explanation, OUTSIDE};
+use super::explanation::{steps_number, Explanation};
 use crate::{twin, yardstick};
 use dacm::{Flags, Item, Kind, Privileges, Refusal, Role, Subject};
 use std::ops::Range;
@@ -262,8 +262,7 @@ impl Call {
             Call::FindEditor { list } =>
                 with_result(dacm::find_editor(image, Item(list)).map(|editor| editor.0)),
             Call::StepsUp { subject, root } =>
-                with_result(dacm::steps_up(image, Subject(subject), Subject(root))
-                    .map(|steps| steps.unwrap_or(OUTSIDE))),
+                with_result(dacm::steps_up(image, Subject(subject), Subject(root)).map(steps_number)),
             _ => panic!("{self:?} does not only ask"),
         }
     }

@@ -30,6 +30,12 @@ pub struct Explanation {
 /// The number that is answered for steps where there are none.
 pub const OUTSIDE: u32 = 4_294_967_295;
 
+/// The number for steps as the crate answers them.
+pub fn steps_number(steps: Option<u32>) -> u32 {
+    assert_ne!(steps, Some(OUTSIDE), "outside is no count of steps");
+    steps.unwrap_or(OUTSIDE)
+}
+
 impl Explanation {
     pub fn refused(number: u32) -> Explanation {
         Explanation {
@@ -51,7 +57,7 @@ impl From<Result<dacm::Explanation, Refusal>> for Explanation {
                 everyone_set: explanation.everyone_set.0,
                 role_set: explanation.role_set.0,
                 operations: explanation.operations.0,
-                steps: explanation.steps.unwrap_or(OUTSIDE),
+                steps: steps_number(explanation.steps),
             },
             Err(refusal) => Explanation::refused(refusal.number()),
         }
