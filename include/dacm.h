@@ -97,7 +97,7 @@ typedef struct { uint32_t number; uint32_t result; } dacm_answer;
 #define DACM_RULE_GROUP_LINE    UINT32_C(4) /* the list has a line for a group above the subject; the nearest decides */
 #define DACM_RULE_NOTHING_FOUND UINT32_C(5) /* there is no such line, or no list */
 
-/* The number for steps of a subject that is outside of the tree. No count of steps is as high. */
+/* Stands for steps where a subject is outside of the tree. No count of steps is as high. */
 #define DACM_STEPS_OUTSIDE UINT32_C(0xffffffff)
 
 /*
@@ -150,7 +150,7 @@ dacm_answer dacm_find_editor(const uint8_t *image, size_t length, dacm_item list
 
 /*
  * Result: how many steps lead from a subject up to the root of a tree, from each subject to its parent. 0 for the root
- * itself, DACM_STEPS_OUTSIDE for a subject that is outside of its tree. Both must be in use; there is no caller.
+ * itself, DACM_STEPS_OUTSIDE for a subject that is outside of the root's tree. Both must be in use; there is no caller.
  */
 dacm_answer dacm_steps_up(const uint8_t *image, size_t length, dacm_subject subject, dacm_subject root);
 

@@ -168,7 +168,7 @@ pub fn find_editor(image: &[u8], list: Item) -> Result<Subject, Refusal> {
 /// How many steps lead from a subject up to the root of a tree, from each subject to its parent: 0 for
 /// the root itself, 1 for those directly below it. `None` for a subject outside of the tree.
 ///
-/// Nobody needs to be the caller. [`Refusal::UnknownSubject`] where one of the two is not in use.
+/// There is no caller. [`Refusal::UnknownSubject`] where one of the two is not in use.
 ///
 /// ```
 /// use dacm::{Capacities, Privileges, Refusal, Role, Subject};

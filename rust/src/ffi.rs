@@ -39,12 +39,6 @@ pub(crate) struct Explanation {
     steps: u32,
 }
 
-/// The steps that a number stands for. The highest number stands for none: outside of the tree. It is
-/// proved of the archive that no count of steps is as high.
-pub(crate) fn steps(number: u32) -> Option<u32> {
-    (number != u32::MAX).then_some(number)
-}
-
 impl Explanation {
     /// The explanation, or the refusal of the call.
     pub(crate) fn result(self) -> Result<crate::Explanation, Refusal> {
@@ -60,6 +54,15 @@ impl Explanation {
             number => Err(Refusal::from_number(number)),
         }
     }
+}
+
+/// Stands for steps where a subject is outside of the tree.
+const STEPS_OUTSIDE: u32 = u32::MAX;
+
+/// The steps that a number stands for. It is proved of the archive that no count of them is as high as
+/// the number for outside.
+pub(crate) fn steps(number: u32) -> Option<u32> {
+    (number != STEPS_OUTSIDE).then_some(number)
 }
 
 /// Declares functions of the header that take the image as const, and a safe function for each.

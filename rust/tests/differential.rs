@@ -217,8 +217,8 @@ fn every_ending() -> BTreeSet<Ending> {
     endings
 }
 
-/// Everything that the steps can be asked about small libraries: each subject and each root, and numbers
-/// that are not in use.
+/// Everything that the steps can be asked about small libraries: each subject and each root, and a
+/// number that is not in use.
 #[test]
 fn steps() {
     let ways = &mut BTreeSet::new();
@@ -227,13 +227,16 @@ fn steps() {
         let tables = Size::small(random).library(random);
         let image = &mut tables.image();
         let seed = format!("a small library, seed {seed}");
+        let by_creators = with_creators_as_parents(&tables);
         let used = tables.subjects.used() as u32;
         for (subject, root) in (0..=used).flat_map(|s| (0..=used).map(move |root| (s, root))) {
             let outcome = compare(image, &Call::StepsUp { subject, root }, &seed);
             let refusal = if subject.max(root) < used { 0 } else { 11 };
             assert_eq!(outcome.number, refusal, "{seed}, {subject} to {root}");
             if refusal == 0 {
-                ways.insert(way(&tables, subject, root, outcome.result));
+                let steps = (outcome.result != OUTSIDE).then_some(outcome.result);
+                let same = by_creators.steps_up(subject, root) == steps;
+                ways.insert((steps.map(|steps| steps.min(3)), same));
             }
         }
     }
@@ -244,14 +247,12 @@ fn steps() {
 /// far if one went up from each subject to its creator.
 type Way = (Option<u32>, bool);
 
-fn way(tables: &Tables, subject: u32, root: u32, steps: u32) -> Way {
-    let mut by_creators = tables.clone();
-    for [parent, _, creator] in &mut by_creators.subjects.rows {
+fn with_creators_as_parents(tables: &Tables) -> Tables {
+    let mut tables = tables.clone();
+    for [parent, _, creator] in &mut tables.subjects.rows {
         *parent = *creator;
     }
-    let steps = (steps != OUTSIDE).then_some(steps);
-    let same = by_creators.steps_up(subject, root) == steps;
-    (steps.map(|steps| steps.min(3)), same)
+    tables
 }
 
 /// Whoever is the root itself is so by its creators too.

@@ -78,8 +78,8 @@ fn the_twelve_sets() {
     }
 }
 
-/// Asker, role, item; then rule, group, set of the rule, of everyone, of the role, of operations, and the
-/// steps from the item's owner up to the grant's domain.
+/// Asker, role, item; then rule, group, set of the rule, of everyone, of the role, of operations, and
+/// the steps from the item's owner up to the grant's domain.
 type Explained = ([u32; 3], [u32; 7]);
 
 #[test]
@@ -270,8 +270,8 @@ fn a_role_granted_by_the_custodian() {
     assert_explains(&tables, ([5, 7, 4], [NOTHING_FOUND, 0, 0, 0, 66, 67, 1]));
 }
 
-/// The grant's domain is 2. An owner below it, 5, is one step away; 1 is above it, and 4 is elsewhere. When
-/// the domain is the custodian, everybody is inside.
+/// The grant's domain is 2. An owner below it, 5, is one step away; 1 is above it, and 4 is elsewhere.
+/// When the domain is the custodian, everybody is inside.
 #[test]
 fn the_steps_of_an_explanation() {
     let mut tables = sample();
@@ -312,7 +312,7 @@ fn steps_up_to_each() {
     }
 }
 
-/// 4 was created by the custodian and 5 by 1. That does not count.
+/// Whoever created 4, which is below 3.
 #[test]
 fn steps_count_parents() {
     let mut tables = sample();

@@ -1,6 +1,6 @@
-//! The stack that the library promises to be enough: every call that searches groups, on the longest
-//! chains of groups and the longest searches that fit into an image, on a thread that has exactly this
-//! stack.
+//! The stack that the library promises to be enough: every call that searches groups or counts steps,
+//! on the longest chains of groups and the longest searches that fit into an image, on a thread that
+//! has exactly this stack.
 
 mod support;
 mod twin;
@@ -154,12 +154,11 @@ fn under_a_role() {
     assert_eq!(explanation.role_set, Privileges::READ);
 }
 
-/// Steps are counted in a loop, from the deepest subject up to the custodian, also for an explanation: the
-/// deepest subject owns the item, and the role is granted over everybody.
+/// Steps are counted in a loop, from the deepest subject up to the custodian, also for an explanation:
+/// the deepest subject owns the item, and the role is granted over everybody.
 #[test]
 fn steps_from_the_deepest() {
-    let grant = || vec![[1, 7, 0, 0, ALL]];
-    let mut tables = chain(grant(), vec![]);
+    let mut tables = chain(vec![[1, 7, 0, 0, ALL]], vec![]);
     let deepest = tables.subjects.used() as u32 - 1;
     tables.items.rows[0][0] = deepest;
     let image = tables.image();

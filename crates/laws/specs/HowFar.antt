@@ -13,7 +13,8 @@ use lib.ListN.{length, List·getD-eq-default}
 use Rattle.model.specs.declared.GrantRow.{GrantRow}
 use Rattle.model.specs.declared.ItemRow.{ItemRow}
 use Rattle.model.specs.declared.SubjectRow.{SubjectRow}
-use Rattle.model.specs.Tree.{stepsUp, outside, stepsNumber, HowFar}
+use Rattle.model.specs.Tree.{stepsUp, outside, stepsNumber}
+use Rattle.model.specs.HowFar.{HowFar}
 use Rattle.model.specs.Image.{Tables, longestImage, noSubject, noItem, widthOf, widthIn, layoutOf, tablesBy, tables, size, subjectFormat}
 use Rattle.model.specs.Image.{subjectIn, parentIn, subjectUsed, itemIn, itemUsed, subjectRules, itemRules, subjectsHold, itemsHold}
 use Rattle.model.specs.Permission.{grantOf, explanationUnder}
@@ -22,7 +23,6 @@ use Rattle.model.specs.Calls.Ask.{stepsUpOf}
 use Rattle.model.specs.Questions.{Question, imageQuestions, askQuestions, explainQuestions, check, ask, explain}
 use Rattle.laws.specs.Tests.{and-l, le-or-lt, every-at}
 use Rattle.laws.specs.Answers.{call-checked, call-passed, image-passed}
-use Rattle.laws.specs.WellFormed.{Passed}
 use Rattle.laws.specs.Rows.{subject-lawful, rows-count}
 use Rattle.laws.specs.Blocks.{rows-extent}
 use Rattle.laws.specs.Laid.{Laid, laid, subjects-inside}

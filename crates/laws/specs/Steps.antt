@@ -1,16 +1,16 @@
 -- Steps are what the word says (document 02, P6): following the parent that many times leads from the subject to the root, and fewer
 -- times do not. If the answer is that the subject is outside, no number of times does.
 use mathlib.Core.Bool.{Bool, true, false, cond}
-use mathlib.Core.List.{List, _++_}
 use mathlib.Core.Logic.{_⊎_, inl, inr, _≢_}
 use mathlib.Core.Option.{Option, none, some, Option·map, Option·some-injective, Option·none-ne-some, Option·some-ne-none}
-use mathlib.Core.Path.{_≡_, refl, sym, ap, _∙_}
+use mathlib.Core.Path.{_≡_, refl, sym, _∙_}
 use Prim.Native.Nat.{ℕ, zero, suc, _+_, _<_, _≤_}
 use native.Mathlib.Omega.{arith}
 use borrow.Author.Tests.{eq-eqb, ne-eqb, lt-ltb, ltb-true}
-use lib.Dec.{T, eqb, ltb}
-use Rattle.model.specs.Tree.{stepsUp, outside, stepsNumber, follow, Leads, HowFar}
-use Rattle.model.specs.Tree.HowFar.{leads, never}
+use lib.Dec.{ltb}
+use Rattle.model.specs.Tree.{stepsUp, outside, stepsNumber}
+use Rattle.model.specs.HowFar.{follow, Leads, HowFar}
+use Rattle.model.specs.HowFar.HowFar.{leads, never}
 use Rattle.laws.specs.Tests.{two, eq-or-ne, lt-eq-gt}
 use Rattle.laws.specs.Tree.{steps-up}
 

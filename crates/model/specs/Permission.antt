@@ -178,6 +178,6 @@ explanationUnder t s g i = explanationOn t s g (itemIn (t .items) i)
 abbrev pub explanation : Tables → ℕ → ℕ → ℕ → Explanation
 explanation t s r i = explanationUnder t s (grantOf t s r) i
 
--- the fields of an explanation, put together by the rules above
+-- the sets of an explanation, put together by the rules above
 abbrev pub putTogether : Explanation → ℕ
 putTogether e = e .operations ∩ (e .«rule_set» ∪ e .«everyone_set» ∪ e .«role_set»)

@@ -1,10 +1,8 @@
 -- Climbing from a number to lower ones. `up` is the step, for example from a subject to its parent. A step that does not go to
 -- a lower number ends the climb, so a climb from s has at most s steps.
 use mathlib.Core.Bool.{Bool, _&&_, not, cond}
-use mathlib.Core.Logic.{_≢_}
 use mathlib.Core.Option.{Option, none, some, Option·map, Option·getD}
-use mathlib.Core.Path.{_≡_}
-use Prim.Native.Nat.{ℕ, zero, suc, _<_}
+use Prim.Native.Nat.{ℕ, zero, suc}
 use lib.Dec.{eqb, ltb}
 use Rattle.model.specs.declared.SoughtSteps.{SoughtSteps}
 use Rattle.model.specs.declared.SoughtSteps.the-variants.{Steps, Outside}
@@ -20,7 +18,7 @@ stepsWithin (suc n) up s h = cond (eqb s h) (some 0) (cond (ltb (up s) s) (Optio
 unfoldable pub stepsUp : (ℕ → ℕ) → ℕ → ℕ → Option ℕ
 stepsUp up s h = stepsWithin s up s h
 
--- s is in the tree of h: it is h, or below h
+-- s is in the tree of h: it is h, or below h. Whose tree it is comes first here, as in the words; above, where the steps begin.
 unfoldable pub inTree : (ℕ → ℕ) → ℕ → ℕ → Bool
 inTree up h s = isThere (stepsUp up s h)
 
@@ -39,18 +37,3 @@ stepsNumber steps = Option·getD steps outside
 abbrev pub foundSteps : SoughtSteps → Option ℕ
 foundSteps (Steps n) = some n
 foundSteps Outside = none
-
--- What steps are, said without a climb. n of them lead from s to h, and fewer do not.
-
-abbrev pub follow : (ℕ → ℕ) → ℕ → ℕ → ℕ
-follow up zero s = s
-follow up (suc n) s = follow up n (up s)
-
-pub record Leads (up : ℕ → ℕ) (s h n : ℕ) : Type 0 where
-  pub there : follow up n s ≡ h
-  pub not-before : (m : ℕ) → m < n → follow up m s ≢ h
-
--- What a number that is answered for steps says: that many lead from s to h, or no number of them does.
-pub data HowFar (up : ℕ → ℕ) (s h : ℕ) : ℕ → Type 0 where
-  leads : {n : ℕ} → n < outside → Leads up s h n → HowFar up s h n
-  never : ((n : ℕ) → follow up n s ≢ h) → HowFar up s h outside

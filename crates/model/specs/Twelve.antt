@@ -1,8 +1,8 @@
 -- The twelve sets of the sample workshop, proved against the rules: the permission set call answers each of them on the
 -- workshop's image, which is accepted. One theorem covers the whole table. Another covers the explanations of these sets, a third
 -- three further explanations, two of them refused, a fourth the counts of holders on each item and four refused calls. Two are
--- about owners without an owner line, one about whom the editor search names. The last two are about steps: what the call answers,
--- and an explanation. All are proved by computation.
+-- about owners without an owner line, one about whom the editor search names. The last three are about steps: what the call
+-- answers, and a set with its explanation. All are proved by computation.
 use mathlib.Core.List.{map}
 use mathlib.Core.Path.{_≡_, refl}
 use lib.Dec.{T}
@@ -45,6 +45,10 @@ pub the-steps : T (every (climbedRight (encode workshop)) stepsCases)
 unfolding workshop computing
 the-steps = tt
 
-pub the-lower-owner : map (explainedCase (encode lowerOwner)) lowerOwnerCases ≡ lowerOwnerReasons
+pub the-lower-owner : T (every (right (encode lowerOwner)) lowerOwnerCases)
 unfolding workshop computing
-the-lower-owner = refl
+the-lower-owner = tt
+
+pub the-lower-owners-reason : map (explainedCase (encode lowerOwner)) lowerOwnerCases ≡ lowerOwnerReasons
+unfolding workshop computing
+the-lower-owners-reason = refl

@@ -28,12 +28,13 @@ pub fn lent_operations(image: &[u8], layout: Layout, grant: SoughtGrant) -> Priv
     }
 }
 
-// What a grant that may be missing adds to the object set of an item, and the steps from the item's owner up to its domain.
+// What a grant adds to the object set of an item, and the steps from the item's owner up to the grant's domain.
 pub struct LentPart {
     pub steps: SoughtSteps,
     pub privileges: Privileges,
 }
 
+// Both for a grant that may be missing, by one climb. Without a grant nothing is added, and the owner counts as outside.
 pub fn lent_part(image: &[u8], layout: Layout, grant: SoughtGrant, item: ItemRow) -> LentPart
     ensures { λ r. ⌜ foundSteps (r .steps) ≡ domainSteps (tablesAt layout (image .entry)) (foundGrant grant) item ⌝ }
     ensures { λ r. ⌜ r .privileges ≡ lentOn (tablesAt layout (image .entry)) (foundGrant grant) item ⌝ }
@@ -51,7 +52,8 @@ pub fn lent_part(image: &[u8], layout: Layout, grant: SoughtGrant, item: ItemRow
     }
 }
 
-// What a grant adds to the object set of an item.
+// What a grant adds to the object set of an item, where nobody asks for the steps. It does not go by `lent_part`: the compiler
+// would make that a call, which was measured to be slower (docs/DECISIONS.md, D36).
 pub fn granted_part(image: &[u8], layout: Layout, grant: GrantRow, item: ItemRow) -> Privileges
     ensures { λ r. ⌜ r ≡ lentOn (tablesAt layout (image .entry)) (some grant) item ⌝ }
 {

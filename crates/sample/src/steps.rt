@@ -1,5 +1,6 @@
-// How many steps lead up from one subject to another (document 02, P6), the cases that `the-steps` of `model` proves. Then the
-// explanation that `the-lower-owner` proves: item 2 is handed over to 5, which is one step below the domain of role 7.
+// How many steps lead up from one subject to another (document 02, P6), the cases that `the-steps` of `model` proves. Then the set
+// and the explanation that `the-lower-owner` and its sister prove: item 2 is handed over to 5, which is one step below the
+// domain of role 7.
 use super::changes::ask_hand_over;
 use super::printing::end_line;
 use super::printing::print_answer;

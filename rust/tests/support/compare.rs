@@ -8,8 +8,8 @@ use super::tables::Tables;
 
 /// Makes the call on the library, on the twin and on the yardstick. All must answer the same and
 /// leave the same bytes. If the call is refused or only asks, these must be the bytes from before.
-/// An explanation, counts and steps must also hold of the image. Afterwards the image is as the call left
-/// it.
+/// An explanation, counts and steps must also hold of the image. Afterwards the image is as the call
+/// left it.
 pub fn compare(image: &mut [u8], call: &Call, seed: &str) -> Outcome {
     compare_made_by(image, call, seed, |image| call.on_library(image))
 }

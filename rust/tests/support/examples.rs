@@ -21,7 +21,7 @@ type Sort = (&'static str, fn(&Example) -> bool);
 
 /// What there must be an example of.
 #[rustfmt::skip]
-const SORTS: [Sort; 20] = [
+const SORTS: [Sort; 21] = [
     ("the custodian", |it| it.rule() == CUSTODIAN),
     ("the custodian, whom everyone's line does not concern", |it| it.rule() == CUSTODIAN && it.everyone != 0),
     ("the custodian under a role", |it| it.rule() == CUSTODIAN && it.explanation.role_set != 0),
@@ -41,7 +41,8 @@ const SORTS: [Sort; 20] = [
     ("a role that is not granted", |it| it.domain.is_none() && it.explanation.steps == OUTSIDE),
     ("an owner outside of the domain", |it| it.domain.is_some() && it.explanation.steps == OUTSIDE),
     ("an owner who is the domain", |it| it.explanation.steps == 0),
-    ("an owner some steps below the domain", |it| (2..OUTSIDE).contains(&it.explanation.steps)),
+    ("an owner one step below the domain", |it| it.explanation.steps == 1),
+    ("an owner more steps below the domain", |it| (2..OUTSIDE).contains(&it.explanation.steps)),
 ];
 
 impl Example<'_> {

@@ -45,8 +45,8 @@ pub fn explain(tables: &Tables, subject: u32, role: u32, item: Item) -> Explanat
     }
 }
 
-/// Of the grant what its grantor's lines' part has too, if the item's owner is some steps below the
-/// domain.
+/// Of the grant what its grantor's lines' part has too, if there are steps from the item's owner up to
+/// the domain.
 fn role_part(tree: Tree, list: &List, grant: Option<Grant>, owner: u32, steps: Option<u32>) -> u32 {
     match (grant, steps) {
         (Some(grant), Some(_)) => grant.privileges & list.part(tree, grant.grantor, owner),
