@@ -16,7 +16,8 @@
  *
  * A call uses at most DACM_STACK_BYTES of stack, whatever the image holds. The search for a group's line is recursive,
  * with at most one level more than the list has group lines. The longest search that fits into an image has some 1,640.
- * The tests run the longest searches and the deepest chains on a thread that has exactly this stack.
+ * Folders are followed in a loop, which needs no further stack. The tests run the longest searches and the deepest
+ * chains, of subjects and of folders, on a thread that has exactly this stack.
  */
 #ifndef DACM_H
 #define DACM_H
@@ -30,9 +31,9 @@ extern "C" {
 
 /* The version of this header. */
 #define DACM_VERSION_MAJOR 0
-#define DACM_VERSION_MINOR 6
+#define DACM_VERSION_MINOR 7
 #define DACM_VERSION_PATCH 0
-#define DACM_VERSION "0.6.0"
+#define DACM_VERSION "0.7.0"
 
 /* The stack that a call may need. */
 #define DACM_STACK_BYTES 524288
@@ -40,7 +41,7 @@ extern "C" {
 /* Subjects, roles and items are numbers. Each has a type of its own, so that one cannot be passed for another. */
 typedef struct { uint32_t number; } dacm_subject; /* 0 is the custodian */
 typedef struct { uint32_t number; } dacm_role;    /* 0 is no role */
-typedef struct { uint32_t number; } dacm_item;    /* items are numbered from 1; as a list, 0 is none */
+typedef struct { uint32_t number; } dacm_item;    /* items are numbered from 1; as a list or folder, 0 is none */
 
 /* What a call answers: number 0 and its result, or the refusal and result 0. A call that names no result has 0. */
 typedef struct { uint32_t number; uint32_t result; } dacm_answer;
@@ -56,7 +57,7 @@ typedef struct { uint32_t number; uint32_t result; } dacm_answer;
 #define DACM_UNUSED_ROW_NOT_ZERO UINT32_C(7)  /* a free row is not all zeros */
 #define DACM_UNKNOWN_CALLER      UINT32_C(10) /* the caller or asker is not in use */
 #define DACM_UNKNOWN_SUBJECT     UINT32_C(11) /* a subject other than the caller or asker is not in use */
-#define DACM_UNKNOWN_ITEM        UINT32_C(12) /* the item is not in use */
+#define DACM_UNKNOWN_ITEM        UINT32_C(12) /* the item, or the folder of a new one, is not in use */
 #define DACM_BAD_COUNTS_LENGTH   UINT32_C(21) /* the counts do not have exactly DACM_POSITIONS entries */
 #define DACM_NOT_A_LIST          UINT32_C(13) /* the list is not in use, or is no access list */
 #define DACM_OUT_OF_RANGE        UINT32_C(14) /* the role, kind, subject or flags are out of range */
@@ -86,9 +87,13 @@ typedef struct { uint32_t number; uint32_t result; } dacm_answer;
 #define DACM_OWNER    UINT32_C(2)
 #define DACM_EVERYONE UINT32_C(3)
 
-/* The flags of an item. */
-#define DACM_IS_LIST UINT32_C(1)
-#define DACM_LOCKED  UINT32_C(2)
+/*
+ * The flags of an item. DACM_FOLDER_APPLIES is out of range for an item without a folder. An item that has a folder but
+ * not this flag is in the folder, and that has no effect.
+ */
+#define DACM_IS_LIST        UINT32_C(1)
+#define DACM_LOCKED         UINT32_C(2)
+#define DACM_FOLDER_APPLIES UINT32_C(4) /* the folder's permission set applies too */
 
 /* The rules of an explanation. The first that applies decides. */
 #define DACM_RULE_CUSTODIAN     UINT32_C(1) /* the subject is the custodian, who has every privilege */
@@ -101,9 +106,11 @@ typedef struct { uint32_t number; uint32_t result; } dacm_answer;
 #define DACM_STEPS_OUTSIDE UINT32_C(0xffffffff)
 
 /*
- * Which rule decided, and what makes up the permission set: it is the privileges in `operations` that are also in
- * `rule_set`, `everyone_set` or `role_set`. A refused call has 0 in every field but the number. A newer version may
- * append fields, so header and archive must be of one version.
+ * Which rule decided, and what makes up the item's own set: it is the privileges in `operations` that are also in
+ * `rule_set`, `everyone_set` or `role_set`. Where `folder` is 0, the own set is the permission set. Otherwise the
+ * permission set is what the own set shares with the permission set on that folder. So ask about the folder next, and
+ * so on until `folder` is 0: what all these own sets share is the permission set. A refused call has 0 in every field
+ * but the number. A newer version may append fields, so header and archive must be of one version.
  */
 typedef struct {
     uint32_t number;       /* DACM_DONE, or the refusal */
@@ -115,6 +122,7 @@ typedef struct {
     uint32_t operations;   /* the operation set */
     uint32_t steps;        /* from the item's owner up to the grant's domain, as dacm_steps_up counts them;
                               DACM_STEPS_OUTSIDE also where the role is not granted */
+    uint32_t folder;       /* the item's folder if it has DACM_FOLDER_APPLIES, otherwise 0 */
 } dacm_explanation;
 
 /* The calls that ask. */
@@ -125,11 +133,17 @@ dacm_answer dacm_check(const uint8_t *image, size_t length);
 /* Result: the operation set of a subject under a role. */
 dacm_answer dacm_operation_set(const uint8_t *image, size_t length, dacm_subject subject, dacm_role role);
 
-/* Result: the permission set of a subject under a role on an item. */
+/*
+ * Result: the permission set of a subject under a role on an item. It is the item's own set or, where the item's folder
+ * applies, what that shares with the permission set on the folder.
+ */
 dacm_answer dacm_permission_set(const uint8_t *image, size_t length, dacm_subject subject, dacm_role role,
                                 dacm_item item);
 
-/* Which rule decided that permission set, and what makes it up. It is refused where dacm_permission_set is. */
+/*
+ * Which rule decided the item's own set, what makes it up, and which folder applies too. It is refused where
+ * dacm_permission_set is.
+ */
 dacm_explanation dacm_explain(const uint8_t *image, size_t length, dacm_subject subject, dacm_role role,
                               dacm_item item);
 
@@ -182,9 +196,12 @@ dacm_answer dacm_set_line(uint8_t *image, size_t length, dacm_subject caller, da
 dacm_answer dacm_remove_line(uint8_t *image, size_t length, dacm_subject caller, dacm_role role, dacm_item list,
                              uint32_t kind, dacm_subject subject);
 
-/* Create an item that the caller owns, governed by a list or by none. Result: its number. */
+/*
+ * Create an item that the caller owns, governed by a list or by none, in a folder or in none. Result: its number. Any
+ * item in use can be a folder, and no right on it is needed. The folder of an item never changes.
+ */
 dacm_answer dacm_create_item(uint8_t *image, size_t length, dacm_subject caller, dacm_role role, dacm_item list,
-                             uint32_t flags);
+                             uint32_t flags, dacm_item folder);
 
 /* Bind an item to a list, or to none. */
 dacm_answer dacm_bind(uint8_t *image, size_t length, dacm_subject caller, dacm_item item, dacm_item list);

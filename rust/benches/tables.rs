@@ -1,6 +1,6 @@
 //! The proved library and two independent implementations in Rust, the plain twin and the quick
 //! yardstick: how long the same calls take on the same images, and the search for one line alone.
-//! `make bench` in the folder above runs this and builds what it needs.
+//! `make bench` in the directory above runs this and builds what it needs.
 
 #[allow(dead_code)]
 #[path = "../tests/support/call.rs"]

@@ -20,6 +20,10 @@ pub fn operation_set(image: &[u8], subject: Subject, role: Role) -> Result<Privi
 
 /// The permission set: what a subject under a role may do with an item. [`explain`] says why.
 ///
+/// It is the item's own set: what the lines of its list and the role give, as far as it is in the
+/// operation set. Where the item's folder applies, it is what the own set shares with the permission
+/// set on the folder.
+///
 /// A role that is not granted to the subject adds nothing and is no refusal.
 pub fn permission_set(
     image: &[u8],
@@ -32,8 +36,8 @@ pub fn permission_set(
         .map(Privileges)
 }
 
-/// Which rule decided the permission set, and what makes it up. For whoever has to say why a subject
-/// may or may not do something with an item.
+/// Which rule decided the item's own set, what makes it up, and which folder applies too. For whoever
+/// has to say why a subject may or may not do something with an item.
 ///
 /// It is refused where [`permission_set`] is.
 ///
@@ -46,7 +50,8 @@ pub fn permission_set(
 /// # let mut image = capacities.empty_image()?;
 /// let his = Privileges::READ | Privileges::REPLACE;
 /// let technician = dacm::define_subject(&mut image, custodian, no_role, custodian, his)?;
-/// let list = dacm::create_item(&mut image, custodian, no_role, Item::NONE, Flags::IS_LIST)?;
+/// let (is_list, no_item) = (Flags::IS_LIST, Item::NONE);
+/// let list = dacm::create_item(&mut image, custodian, no_role, no_item, is_list, no_item)?;
 /// dacm::bind(&mut image, custodian, list, list)?;
 /// let (own, none) = (Kind::ITSELF, Privileges::NONE);
 /// dacm::set_line(&mut image, custodian, no_role, list, own, technician, none)?;
@@ -65,9 +70,59 @@ pub fn permission_set(
 ///      nothing; of these the operation set lets through read."
 /// );
 ///
-/// // Put together, this is the permission set.
+/// // No folder applies, so this is the permission set too.
+/// assert_eq!(explanation.folder, None);
 /// let set = dacm::permission_set(&image, technician, no_role, list)?;
-/// assert_eq!(explanation.permission_set(), set);
+/// assert_eq!(explanation.own_set(), set);
+/// # Ok(())
+/// # }
+/// ```
+///
+/// Where a folder applies, ask about the folder next, and so on upward. What all the own sets share is
+/// the permission set:
+///
+/// ```
+/// use dacm::{Explanation, Item, Privileges, Refusal, Role, Subject};
+/// # use dacm::{Capacities, Flags, Kind};
+///
+/// /// Every explanation that counts, from the item up to the last folder that applies.
+/// fn explain_all(
+///     image: &[u8],
+///     subject: Subject,
+///     role: Role,
+///     item: Item,
+/// ) -> Result<Vec<Explanation>, Refusal> {
+///     let mut explanations = vec![dacm::explain(image, subject, role, item)?];
+///     while let Some(folder) = explanations[explanations.len() - 1].folder {
+///         explanations.push(dacm::explain(image, subject, role, folder)?);
+///     }
+///     Ok(explanations)
+/// }
+///
+/// # fn main() -> Result<(), Refusal> {
+/// # let (custodian, no_role) = (Subject::CUSTODIAN, Role::NONE);
+/// # let capacities = Capacities { subjects: 2, grants: 0, lines: 2, items: 5 };
+/// # let mut image = capacities.empty_image()?;
+/// # let (read, replace) = (Privileges::READ, Privileges::REPLACE);
+/// # let fitter = dacm::define_subject(&mut image, custodian, no_role, custodian, read | replace)?;
+/// # let (none, is_list) = (Item::NONE, Flags::IS_LIST);
+/// # let guests = dacm::create_item(&mut image, custodian, no_role, none, is_list, none)?;
+/// # let fitters = dacm::create_item(&mut image, custodian, no_role, none, is_list, none)?;
+/// # let everyone = Kind::EVERYONE;
+/// # dacm::set_line(&mut image, custodian, no_role, guests, everyone, custodian, read)?;
+/// # dacm::set_line(&mut image, custodian, no_role, fitters, everyone, custodian, read | replace)?;
+/// # let applies = Flags::FOLDER_APPLIES;
+/// # let hall = dacm::create_item(&mut image, custodian, no_role, guests, Flags::NONE, none)?;
+/// # let files = dacm::create_item(&mut image, custodian, no_role, fitters, applies, hall)?;
+/// # let table = dacm::create_item(&mut image, custodian, no_role, fitters, applies, files)?;
+/// // Why may the fitter not replace the table, which is among the hall's files? Its own set has that.
+/// let explanations = explain_all(&image, fitter, no_role, table)?;
+/// let own_sets: Vec<String> = explanations.iter().map(|one| one.own_set().to_string()).collect();
+/// assert_eq!(own_sets, ["read, replace", "read, replace", "read"]);
+/// assert_eq!(explanations[1].folder, Some(hall));
+///
+/// let shared = explanations.iter().fold(Privileges::ALL, |set, one| set & one.own_set());
+/// assert_eq!(shared, dacm::permission_set(&image, fitter, no_role, table)?);
 /// # Ok(())
 /// # }
 /// ```
@@ -96,9 +151,10 @@ pub fn explain(
 /// let (read, both) = (Privileges::READ, Privileges::READ | Privileges::REPLACE);
 /// dacm::define_subject(&mut image, custodian, no_role, custodian, both)?;
 /// dacm::define_subject(&mut image, custodian, no_role, custodian, read)?;
-/// let list = dacm::create_item(&mut image, custodian, no_role, Item::NONE, Flags::IS_LIST)?;
+/// let (is_list, plain, none) = (Flags::IS_LIST, Flags::NONE, Item::NONE);
+/// let list = dacm::create_item(&mut image, custodian, no_role, none, is_list, none)?;
 /// dacm::set_line(&mut image, custodian, no_role, list, Kind::EVERYONE, custodian, both)?;
-/// let table = dacm::create_item(&mut image, custodian, no_role, list, Flags::NONE)?;
+/// let table = dacm::create_item(&mut image, custodian, no_role, list, plain, none)?;
 ///
 /// // How many can replace it? The custodian and the fitter: the visitor may not replace at all.
 /// let counts = dacm::count_holders(&image, table)?;
@@ -148,7 +204,8 @@ pub fn lines_of(image: &[u8], list: Item) -> Result<&[u8], Refusal> {
 /// let edit = Privileges::EDIT_LIST;
 /// let engineer = dacm::define_subject(&mut image, custodian, no_role, custodian, edit)?;
 /// let deputy = dacm::define_subject(&mut image, custodian, no_role, custodian, edit)?;
-/// let list = dacm::create_item(&mut image, custodian, no_role, Item::NONE, Flags::IS_LIST)?;
+/// let (is_list, none) = (Flags::IS_LIST, Item::NONE);
+/// let list = dacm::create_item(&mut image, custodian, no_role, none, is_list, none)?;
 /// dacm::bind(&mut image, custodian, list, list)?;
 /// assert_eq!(dacm::find_editor(&image, list), Err(Refusal::NoEditor));
 ///

@@ -14,7 +14,7 @@ const LONGEST: usize = 65_536;
 /// # fn main() -> Result<(), Refusal> {
 /// const LIBRARY: Capacities = Capacities { subjects: 100, grants: 20, lines: 200, items: 500 };
 /// let image = LIBRARY.empty_image()?;
-/// assert_eq!(image.len(), 10_836);
+/// assert_eq!(image.len(), 12_836);
 /// dacm::check(&image)?;
 /// # Ok(())
 /// # }

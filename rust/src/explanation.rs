@@ -1,9 +1,9 @@
-//! Why a permission set is what it is.
+//! Why an item's own set is what it is.
 
-use crate::{Privileges, Subject};
+use crate::{Item, Privileges, Subject};
 use core::fmt;
 
-/// The rule behind the lines' part of a permission set. The first of these that applies decides.
+/// The rule behind the lines' part of an item's own set. The first of these that applies decides.
 ///
 /// One of the five always applies, so a `match` may list them all.
 #[derive(Clone, Copy, Debug, PartialEq, Eq, PartialOrd, Ord, Hash)]
@@ -69,7 +69,8 @@ impl fmt::Display for Rule {
     }
 }
 
-/// Which rule decided a permission set, and what makes it up. [`explain`](crate::explain) answers it.
+/// Which rule decided an item's own set, what makes it up, and which folder applies too.
+/// [`explain`](crate::explain) answers it.
 ///
 /// A newer version may have more fields.
 #[non_exhaustive]
@@ -90,12 +91,17 @@ pub struct Explanation {
     /// [`steps_up`](crate::steps_up) counts them. `None` where the role is not granted, and where the
     /// owner is outside of the domain's tree. The role then adds nothing.
     pub steps: Option<u32>,
+    /// The folder that applies to the item. `None` where the item has none, and where it has one
+    /// without the flag [`FOLDER_APPLIES`](crate::Flags::FOLDER_APPLIES).
+    pub folder: Option<Item>,
 }
 
 impl Explanation {
-    /// The permission set that this explains: what lines or role give, as far as it is in the
-    /// operation set.
-    pub fn permission_set(&self) -> Privileges {
+    /// The own set that this explains: what lines or role give, as far as it is in the operation set.
+    ///
+    /// Where no [`folder`](Explanation::folder) applies, it is the permission set. Where one does, the
+    /// permission set is what the own set shares with the permission set on the folder.
+    pub fn own_set(&self) -> Privileges {
         self.operations & (self.rule_set | self.everyone_set | self.role_set)
     }
 
@@ -121,16 +127,22 @@ impl Explanation {
 ///
 /// "The subject's own line decided and gives annotate; everyone's line adds read; the role adds read,
 /// replace; of these the operation set lets through read, replace, annotate."
+///
+/// Where a folder applies, it ends "lets through read, replace, annotate; folder 3 applies too."
 impl fmt::Display for Explanation {
     fn fmt(&self, out: &mut fmt::Formatter<'_>) -> fmt::Result {
         self.write_rule(out)?;
         write!(out, "; everyone's line adds {}", InWords(self.everyone_set))?;
         write!(out, "; the role adds {}", InWords(self.role_set))?;
-        let let_through = InWords(self.permission_set());
+        let let_through = InWords(self.own_set());
         write!(
             out,
-            "; of these the operation set lets through {let_through}."
-        )
+            "; of these the operation set lets through {let_through}"
+        )?;
+        if let Some(Item(number)) = self.folder {
+            write!(out, "; folder {number} applies too")?;
+        }
+        out.write_str(".")
     }
 }
 
@@ -150,7 +162,7 @@ impl fmt::Display for InWords {
 #[cfg(test)]
 mod tests {
     use super::{Explanation, Rule};
-    use crate::{Privileges, Subject};
+    use crate::{Item, Privileges, Subject};
     use std::string::ToString;
 
     const READ: Privileges = Privileges::READ;
@@ -177,6 +189,7 @@ mod tests {
             role_set,
             operations,
             steps: None,
+            folder: None,
         }
     }
 
@@ -231,18 +244,32 @@ mod tests {
     }
 
     #[test]
-    fn a_permission_set_is_put_together() {
+    fn an_own_set_is_put_together() {
         let sets = [ANNOTATE, READ, REPLACE, Privileges(0b0111)];
         let explained = explanation(Rule::OwnLine, sets);
-        assert_eq!(explained.permission_set(), READ | REPLACE);
+        assert_eq!(explained.own_set(), READ | REPLACE);
         for only in 0..3 {
             let mut sets = [NONE, NONE, NONE, ALL];
             sets[only] = READ;
             let explained = explanation(Rule::OwnLine, sets);
-            assert_eq!(explained.permission_set(), READ);
+            assert_eq!(explained.own_set(), READ);
         }
         let explained = explanation(Rule::OwnLine, [ALL, ALL, ALL, NONE]);
-        assert_eq!(explained.permission_set(), NONE);
+        assert_eq!(explained.own_set(), NONE);
+    }
+
+    /// The own set is the item's, whatever applies beside it.
+    #[test]
+    fn a_folder_changes_nothing_but_the_end_of_the_sentence() {
+        let plain = explanation(Rule::OwnLine, [ANNOTATE, READ, NONE, ALL]);
+        let folder = Some(Item(3));
+        let in_folder = Explanation { folder, ..plain };
+        assert_eq!(in_folder.own_set(), plain.own_set());
+        let sentence = "The subject's own line decided and gives annotate; everyone's line adds read; \
+                        the role adds nothing; of these the operation set lets through read, annotate";
+        assert_eq!(plain.to_string(), sentence.to_string() + ".");
+        let end = "; folder 3 applies too.";
+        assert_eq!(in_folder.to_string(), sentence.to_string() + end);
     }
 
     #[test]

@@ -37,6 +37,7 @@ pub(crate) struct Explanation {
     role_set: Privileges,
     operations: Privileges,
     steps: u32,
+    folder: Item,
 }
 
 impl Explanation {
@@ -50,6 +51,7 @@ impl Explanation {
                 role_set: self.role_set,
                 operations: self.operations,
                 steps: steps(self.steps),
+                folder: folder(self.folder),
             }),
             number => Err(Refusal::from_number(number)),
         }
@@ -63,6 +65,11 @@ const STEPS_OUTSIDE: u32 = u32::MAX;
 /// the number for outside.
 pub(crate) fn steps(number: u32) -> Option<u32> {
     (number != STEPS_OUTSIDE).then_some(number)
+}
+
+/// The folder that applies, if one does.
+fn folder(item: Item) -> Option<Item> {
+    (item != Item::NONE).then_some(item)
 }
 
 /// Declares functions of the header that take the image as const, and a safe function for each.
@@ -146,7 +153,9 @@ calls_that_change! {
     fn remove_line = dacm_remove_line(
         caller: Subject, role: Role, list: Item, kind: Kind, subject: Subject
     );
-    fn create_item = dacm_create_item(caller: Subject, role: Role, list: Item, flags: Flags);
+    fn create_item = dacm_create_item(
+        caller: Subject, role: Role, list: Item, flags: Flags, folder: Item
+    );
     fn bind = dacm_bind(caller: Subject, item: Item, list: Item);
     fn hand_over = dacm_hand_over(caller: Subject, item: Item, owner: Subject);
 }

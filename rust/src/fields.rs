@@ -42,21 +42,24 @@ impl fmt::Display for Kind {
 /// ```
 /// use dacm::Flags;
 ///
-/// let flags = Flags::IS_LIST | Flags::LOCKED;
+/// let flags = Flags::IS_LIST | Flags::FOLDER_APPLIES;
 /// assert!(flags.contains(Flags::IS_LIST));
-/// assert_eq!(flags.to_string(), "list, locked");
+/// assert_eq!(flags.to_string(), "list, folder applies");
 /// ```
 #[repr(transparent)]
 #[derive(Clone, Copy, Debug, Default, PartialEq, Eq, PartialOrd, Ord, Hash)]
 pub struct Flags(pub u32);
 
 impl Flags {
-    /// Neither of the two flags.
+    /// None of the three flags.
     pub const NONE: Flags = Flags(0);
     /// The item is an access list.
     pub const IS_LIST: Flags = Flags(1);
     /// The item is locked: its owner may not bind it. The custodian may.
     pub const LOCKED: Flags = Flags(2);
+    /// The permission set on the item's folder applies too: the permission set on the item has only
+    /// what is in it. An item with this flag must have a folder.
+    pub const FOLDER_APPLIES: Flags = Flags(4);
 }
 
 bit_set!(Flags);
@@ -64,7 +67,8 @@ bit_set!(Flags);
 /// The names with commas between them, "bit 4" for one that is no flag. Without a flag it is "none".
 impl fmt::Display for Flags {
     fn fmt(&self, out: &mut fmt::Formatter<'_>) -> fmt::Result {
-        write_names(out, self.0.into(), &["list", "locked"], "bit")
+        let names = ["list", "locked", "folder applies"];
+        write_names(out, self.0.into(), &names, "bit")
     }
 }
 
@@ -88,8 +92,11 @@ mod tests {
             (Flags::NONE, "none"),
             (Flags::IS_LIST, "list"),
             (Flags::LOCKED, "locked"),
+            (Flags::FOLDER_APPLIES, "folder applies"),
             (Flags::IS_LIST | Flags::LOCKED, "list, locked"),
+            (Flags(7), "list, locked, folder applies"),
             (Flags::LOCKED | Flags(1 << 4), "locked, bit 4"),
+            (Flags(1 << 3), "bit 3"),
             (Flags(1 << 31), "bit 31"),
         ];
         for (flags, name) in named {

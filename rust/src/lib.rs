@@ -8,7 +8,7 @@
 //!
 //! A call uses at most [`STACK_BYTES`] of stack, whatever the image holds. The search for a group's
 //! line is recursive, with at most one level more than the list has group lines. The longest search
-//! that fits into an image has some 1,640.
+//! that fits into an image has some 1,640. Folders are followed in a loop.
 //!
 //! # An image and some calls
 //!
@@ -34,10 +34,11 @@
 //! assert_eq!(dacm::operation_set(&image, technician, no_role)?, hers);
 //!
 //! // A list on which whoever is below the engineer may read, and a document of hers under it.
-//! let read = Privileges::READ;
-//! let list = dacm::create_item(&mut image, custodian, no_role, Item::NONE, Flags::IS_LIST)?;
+//! // Neither is in a folder.
+//! let (read, none) = (Privileges::READ, Item::NONE);
+//! let list = dacm::create_item(&mut image, custodian, no_role, none, Flags::IS_LIST, none)?;
 //! dacm::set_line(&mut image, custodian, no_role, list, Kind::GROUP, engineer, read)?;
-//! let document = dacm::create_item(&mut image, engineer, no_role, list, Flags::NONE)?;
+//! let document = dacm::create_item(&mut image, engineer, no_role, list, Flags::NONE, none)?;
 //! let set = dacm::permission_set(&image, technician, no_role, document)?;
 //! assert!(set.contains(Privileges::READ));
 //! assert_eq!(set.to_string(), "read");
@@ -74,8 +75,8 @@
 //! into bytes that the host has.
 //!
 //! The crate links the proved static library `libdacm.a`. Where the environment variable
-//! `DACM_LIB_DIR` names a folder, it is taken from there; a relative path counts from the crate's
-//! folder. Otherwise it is taken from `target/staticlib` in the folder above the crate, where
+//! `DACM_LIB_DIR` names a directory, it is taken from there; a relative path counts from the crate's
+//! directory. Otherwise it is taken from `target/staticlib` in the directory above the crate, where
 //! `make archive` builds it.
 
 #![no_std]

@@ -17,7 +17,8 @@ impl Subject {
 pub struct Item(pub u32);
 
 impl Item {
-    /// No list. An item that is created under it or bound to it has no list.
+    /// No list, or no folder. An item that is created under it or bound to it has no list. One that is
+    /// created in it has no folder.
     pub const NONE: Item = Item(0);
 }
 

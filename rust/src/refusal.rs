@@ -77,7 +77,8 @@ refusals! {
     3 BadSubjectRow: "the subject rows break their rules";
 
     /// An item row breaks a rule. Its owner must be in use, its list must be 0 or an access list in
-    /// use, and its flags must not be above 3.
+    /// use, its flags must not be above 7, and its folder must be lower than its own number. The folder
+    /// must not be 0 where the flag [`FOLDER_APPLIES`](crate::Flags::FOLDER_APPLIES) is set.
     4 BadItemRow: "the item rows break their rules";
 
     /// A line row breaks a rule, or the rows do not ascend by list, kind and subject. Its list must
@@ -100,7 +101,8 @@ refusals! {
     /// the new owner, or one of the two between which steps are counted.
     11 UnknownSubject: "another subject named is not in use";
 
-    /// The item is not in use. The first item has number 1.
+    /// The item is not in use, or the folder in which an item is to be created. The first item has
+    /// number 1. Only as a folder [`Item::NONE`](crate::Item::NONE) is accepted.
     12 UnknownItem: "the item named is not in use";
 
     /// The slice lent for the counts does not have exactly 32 entries. The crate's own
@@ -113,7 +115,8 @@ refusals! {
     13 NotAList: "the list named is no access list in use";
 
     /// An argument is out of range: role 0 to be granted or taken back, a kind above 3, a subject
-    /// other than 0 in a line for the owner or for everyone, or flags above 3.
+    /// other than 0 in a line for the owner or for everyone, flags above 7, or the flag
+    /// [`FOLDER_APPLIES`](crate::Flags::FOLDER_APPLIES) for an item without a folder.
     14 OutOfRange: "the role, kind, subject or flags are out of range";
 
     /// The caller may not do this. The documentation of each call says who may.

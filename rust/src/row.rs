@@ -68,8 +68,11 @@ pub struct ItemRow {
     pub owner: Subject,
     /// The access list that governs the item, or [`Item::NONE`].
     pub list: Item,
-    /// Whether the item is an access list, and whether it is locked.
+    /// Whether the item is an access list, whether it is locked, and whether its folder applies.
     pub flags: Flags,
+    /// The folder that the item is in, or [`Item::NONE`]. Its number is lower than the item's. It
+    /// has an effect only with the flag [`FOLDER_APPLIES`](Flags::FOLDER_APPLIES).
+    pub folder: Item,
 }
 
 impl Row for SubjectRow {
@@ -115,14 +118,15 @@ impl Row for LineRow {
 }
 
 impl Row for ItemRow {
-    const BYTES: usize = 3 * FIELD_BYTES;
+    const BYTES: usize = 4 * FIELD_BYTES;
 
     fn from_bytes(bytes: &[u8]) -> Option<ItemRow> {
-        let [owner, list, flags] = read_fields(bytes)?;
+        let [owner, list, flags, folder] = read_fields(bytes)?;
         Some(ItemRow {
             owner: Subject(owner),
             list: Item(list),
             flags: Flags(flags),
+            folder: Item(folder),
         })
     }
 }
@@ -166,11 +170,12 @@ mod tests {
             owner: Subject(1),
             list: Item(2),
             flags: Flags(3),
+            folder: Item(4),
         };
         assert_eq!(SubjectRow::from_bytes(&BYTES[..12]), Some(subject));
         assert_eq!(GrantRow::from_bytes(&BYTES), Some(grant));
         assert_eq!(LineRow::from_bytes(&BYTES[..16]), Some(line));
-        assert_eq!(ItemRow::from_bytes(&BYTES[..12]), Some(item));
+        assert_eq!(ItemRow::from_bytes(&BYTES[..16]), Some(item));
     }
 
     #[test]

@@ -43,7 +43,7 @@ fn the_readme_from_c_with_the_installed_library() {
 fn assert_readme_runs(name: &str, library: &[String]) {
     let readme = std::fs::read_to_string(here().join("../README.md")).expect("there is a README");
     let source = Path::new(env!("CARGO_TARGET_TMPDIR")).join(format!("{name}.c"));
-    std::fs::write(&source, block(&readme, "c")).expect("cargo's folder for tests takes a file");
+    std::fs::write(&source, block(&readme, "c")).expect("cargo's directory for tests takes a file");
     let program = compile(&source, name, library);
     let ended = Command::new(&program).output().expect("the program starts");
     assert!(ended.status.success());
@@ -108,6 +108,7 @@ fn the_names_of_the_header() {
         ("EVERYONE", Kind::EVERYONE.0),
         ("IS_LIST", Flags::IS_LIST.0),
         ("LOCKED", Flags::LOCKED.0),
+        ("FOLDER_APPLIES", Flags::FOLDER_APPLIES.0),
         ("RULE_CUSTODIAN", Rule::Custodian.number()),
         ("RULE_OWNER_LINE", Rule::OwnerLine.number()),
         ("RULE_OWN_LINE", Rule::OwnLine.number()),
@@ -201,9 +202,9 @@ fn block<'a>(text: &'a str, language: &str) -> &'a str {
 
 /// Compiles a C program with the library and returns its path.
 fn compile(source: &Path, name: &str, library: &[String]) -> PathBuf {
-    let folder = Path::new(env!("CARGO_TARGET_TMPDIR")).join("c_program");
-    std::fs::create_dir_all(&folder).expect("cargo's folder for tests takes another");
-    let program = folder.join(name);
+    let directory = Path::new(env!("CARGO_TARGET_TMPDIR")).join("c_program");
+    std::fs::create_dir_all(&directory).expect("cargo's directory for tests takes another");
+    let program = directory.join(name);
     let ended = Command::new("cc")
         .args(FLAGS)
         .arg(source)

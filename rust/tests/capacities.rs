@@ -71,7 +71,7 @@ fn random_ones() {
         let random = &mut Random::new(seed);
         // Each table takes at most a quarter of the bytes behind the header.
         let [subjects, grants, lines, items] =
-            [12, 20, 16, 12].map(|row| random.below(16_375 / row));
+            [12, 20, 16, 16].map(|row| random.below(16_375 / row));
         assert_makes_its_image(capacities([subjects + 1, grants, lines, items]));
     }
 }
@@ -88,10 +88,10 @@ fn the_longest() {
     let longest = [
         [5_457, 0, 1, 0],
         [5_455, 2, 0, 0],
-        [1, 0, 1, 5_456],
+        [2, 1, 0, 4_091],
         [2, 3_273, 1, 0],
         [2, 1, 4_091, 0],
-        [1_000, 600, 1_000, 2_125],
+        [1_001, 600, 1_000, 1_593],
     ];
     for rows in longest {
         assert_makes_its_image(capacities(rows));
@@ -130,7 +130,7 @@ fn no_row_for_the_custodian() {
 #[test]
 fn every_byte_is_written() {
     let capacities = capacities([2, 1, 1, 1]);
-    let mut image = vec![0xff; 36 + 24 + 20 + 16 + 12];
+    let mut image = vec![0xff; 36 + 24 + 20 + 16 + 16];
     assert_eq!(capacities.write_empty_image(&mut image), Ok(()));
     assert_eq!(Ok(image), capacities.empty_image());
 }
@@ -160,7 +160,8 @@ fn filled_to_the_last_row() {
         dacm::set_grant(image, custodian, custodian, role, custodian, all)
     });
     let items = rows_until_full(|_| {
-        dacm::create_item(image, custodian, no_role, Item::NONE, Flags::IS_LIST).map(|_| ())
+        let (none, flags) = (Item::NONE, Flags::IS_LIST);
+        dacm::create_item(image, custodian, no_role, none, flags, none).map(|_| ())
     });
     let lines = rows_until_full(|added| {
         let (list, kind, subject) = (Item(1), Kind::ITSELF, Subject(added));

@@ -9,7 +9,9 @@
 //! the questions 1 to 7. The test of explanations demands that there was one of each sort, the test of
 //! counts that at each position one, several and all subjects were counted, the test of editors that
 //! each rule, and the line for everyone, made the only editor and the lowest of several, and the test
-//! of steps that there were none, one, two, more, and roots out of reach.
+//! of steps that there were none, one, two, more, and roots out of reach. The test of folders demands
+//! that one, two and more folders applied, that some of them cut the set and others did not; the tests
+//! of counts and editors demand that too.
 
 mod support;
 mod twin;
@@ -22,15 +24,15 @@ use support::choose::{Chooser, ENTRIES, ROLES};
 use support::compare::compare;
 use support::coverage::Coverage;
 use support::damage::{damage, telling_values};
-use support::editors::{expected, Ending};
+use support::editors::{by_folders, expected, ByFolders, Ending};
 use support::examples::Examples;
 use support::explanation::{Question, GROUP_LINE, NOTHING_FOUND, OUTSIDE, OWNER_LINE, OWN_LINE};
-use support::holders::counts_of_sets;
+use support::holders::{counts_of_own_sets, counts_of_sets};
 use support::libraries::Size;
 use support::random::Random;
 use support::rounds;
 use support::sample::sample;
-use support::tables::{field_count, set_field, Tables};
+use support::tables::{field_count, set_field, Tables, FOLDER_APPLIES, IS_LIST};
 
 #[test]
 fn accepted_images() {
@@ -75,6 +77,114 @@ fn explanations() {
     examples.assert_all_seen();
 }
 
+/// Everything that the permission set can be asked about small libraries. It is what the own sets share
+/// that the library explains, from the item up the folders that apply.
+#[test]
+fn folders() {
+    let seen = &mut BTreeSet::new();
+    for seed in 0..rounds(2_000) {
+        let random = &mut Random::new(seed);
+        let tables = Size::small(random).library(random);
+        let image = &mut tables.image();
+        let seed = format!("a small library, seed {seed}");
+        for question in every_question(&tables) {
+            let outcome = compare(image, &question.set(), &seed);
+            let number = refusal(&tables, &question);
+            assert_eq!(outcome.number, number, "{seed}: {question:?}");
+            if number == 0 {
+                let own_sets = own_sets_on_way_up(image, &tables, &question);
+                let shared = own_sets.iter().fold(u32::MAX, |set, own| set & own);
+                assert_eq!(outcome.result, shared, "{seed}: {question:?}");
+                let under_role = tables.domain_of(question.subject, question.role).is_some();
+                let is_cut = shared != own_sets[0];
+                seen.insert((own_sets.len().min(4) - 1, is_cut, under_role));
+            }
+        }
+    }
+    assert_eq!(seen, &every_folding());
+}
+
+/// The own sets of the item and of each folder that applies, as the library explains them.
+fn own_sets_on_way_up(image: &[u8], tables: &Tables, question: &Question) -> Vec<u32> {
+    let own_set = |item| {
+        let call = Question { item, ..*question }.call();
+        let explanation = call.ask_library(image).explanation;
+        explanation.expect("it is an explanation").own_set()
+    };
+    let way_up = tables.way_up(question.item);
+    way_up.into_iter().map(own_set).collect()
+}
+
+/// How many folders applied, three standing for more; whether the set was smaller than the item's own;
+/// and whether a role was granted.
+type Folding = (usize, bool, bool);
+
+/// Without a folder nothing is cut.
+fn every_folding() -> BTreeSet<Folding> {
+    let cases = (0..4).flat_map(|applied| [(applied, false), (applied, true)]);
+    let cases = cases.filter(|case| *case != (0, true));
+    cases
+        .flat_map(|(applied, is_cut)| [(applied, is_cut, false), (applied, is_cut, true)])
+        .collect()
+}
+
+/// Ways up through dozens of folders, on which the yardstick remembers what it has met. In most of the
+/// libraries the lines give many privileges, so that something is left at the end.
+#[test]
+fn many_folders() {
+    let seen = &mut BTreeSet::new();
+    for seed in 0..rounds(1_000) {
+        let random = &mut Random::new(seed);
+        let tables = with_many_folders(random);
+        let image = &mut tables.image();
+        let seed = format!("many folders, seed {seed}");
+        let list = tables.items.used() as u32;
+        compare(image, &Call::FindEditor { list }, &seed);
+        compare_counts(
+            &tables,
+            list,
+            Counts::POSITIONS,
+            &seed,
+            &mut Counted::default(),
+        );
+        let questions = every_question(&tables).into_iter();
+        for question in questions.filter(|question| question.item == list) {
+            let set = compare(image, &question.set(), &seed).result;
+            let own_sets = own_sets_on_way_up(image, &tables, &question);
+            let shared = own_sets.iter().fold(u32::MAX, |set, own| set & own);
+            assert_eq!(set, shared, "{seed}: {question:?}");
+            let under_role = tables.domain_of(question.subject, question.role).is_some();
+            seen.insert((set != 0, set != own_sets[0], under_role));
+        }
+    }
+    assert_eq!(seen.len(), 8, "{seen:?}");
+}
+
+/// A small library with a chain of items behind it, each in the one before, which applies as its folder.
+/// The last one is a list.
+fn with_many_folders(random: &mut Random) -> Tables {
+    let mut tables = Size::small(random).library(random);
+    let times = random.below(4);
+    for [_, _, _, privileges] in &mut tables.lines.rows {
+        *privileges |= (0..times).fold(0, |given, _| given | random.number());
+    }
+    for [.., privileges] in &mut tables.grants.rows {
+        *privileges |= random.number();
+    }
+    let lists = tables.lists();
+    let count = 20 + random.below(40);
+    for number in 1..=count {
+        let owner = random.below(tables.subjects.used()) as u32;
+        let list = random.pick_any(&lists).unwrap_or(0);
+        let folder = tables.items.used() as u32;
+        let applies = if folder == 0 { 0 } else { FOLDER_APPLIES };
+        let is_list = if number == count { IS_LIST } else { 0 };
+        let row = [owner, list, applies | is_list, folder];
+        tables.items.rows.push(row);
+    }
+    tables
+}
+
 fn every_question(tables: &Tables) -> Vec<Question> {
     let mut questions = Vec::new();
     for subject in 0..=tables.subjects.used() as u32 {
@@ -106,14 +216,14 @@ fn has_item(tables: &Tables, item: u32) -> bool {
 /// not in use, with each number of entries. And one item of some larger ones.
 #[test]
 fn counts() {
-    let shares = &mut BTreeSet::new();
+    let seen = &mut Counted::default();
     for seed in 0..rounds(2_000) {
         let random = &mut Random::new(seed);
         let tables = Size::small(random).library(random);
         let seed = format!("a small library, seed {seed}");
         for item in 0..=tables.items.used() as u32 + 1 {
             for entries in ENTRIES {
-                compare_counts(&tables, item, entries, &seed, shares);
+                compare_counts(&tables, item, entries, &seed, seen);
             }
         }
     }
@@ -122,9 +232,20 @@ fn counts() {
         let tables = Size::larger(random).library(random);
         let item = (tables.items.used() as u32).div_ceil(2);
         let seed = format!("a larger library, seed {seed}");
-        compare_counts(&tables, item, Counts::POSITIONS, &seed, shares);
+        compare_counts(&tables, item, Counts::POSITIONS, &seed, seen);
     }
+    let Counted { shares, folders } = seen;
     assert_eq!(shares.len(), 3 * Counts::POSITIONS, "{shares:?}");
+    assert_eq!(folders.len(), 7, "{folders:?}");
+}
+
+/// What the test of counts has seen.
+#[derive(Default)]
+struct Counted {
+    /// Who was counted at each position.
+    shares: BTreeSet<(usize, Share)>,
+    /// How many folders applied, three standing for more, and whether they left out anybody.
+    folders: BTreeSet<(usize, bool)>,
 }
 
 /// Who was counted at a position.
@@ -136,14 +257,8 @@ enum Share {
 }
 
 /// Unless the call is refused, each count is that of the permission sets which have the position.
-/// Adds each position with its share.
-fn compare_counts(
-    tables: &Tables,
-    item: u32,
-    entries: usize,
-    seed: &str,
-    shares: &mut BTreeSet<(usize, Share)>,
-) {
+/// Adds what was seen.
+fn compare_counts(tables: &Tables, item: u32, entries: usize, seed: &str, seen: &mut Counted) {
     let mut image = tables.image();
     let call = Call::CountHolders { item, entries };
     let outcome = compare(&mut image, &call, seed);
@@ -164,7 +279,11 @@ fn compare_counts(
         count if count < subjects => Share::Several,
         _ => Share::All,
     };
-    shares.extend(counts.lent().iter().map(share).enumerate());
+    let shares = counts.lent().iter().map(share).enumerate();
+    seen.shares.extend(shares);
+    let applied = tables.way_up(item).len() - 1;
+    let left_out = counts.lent() != counts_of_own_sets(&image, item);
+    seen.folders.insert((applied.min(3), left_out));
 }
 
 /// The refusal on an accepted image: question 12 is asked before question 21.
@@ -183,6 +302,7 @@ fn refusal_of_counts(tables: &Tables, item: u32, entries: usize) -> u32 {
 #[test]
 fn editors() {
     let endings = &mut BTreeSet::new();
+    let folders = &mut BTreeSet::new();
     for seed in 0..rounds(20_000) {
         let random = &mut Random::new(seed);
         let tables = Size::small(random).library(random);
@@ -197,9 +317,21 @@ fn editors() {
                 "{seed}, list {list}"
             );
             endings.insert(ending);
+            if ending != Ending::NoList {
+                let named = (number == 0).then_some(result);
+                let by_folders = by_folders(&tables, image, list, named);
+                folders.insert((named.is_some(), by_folders));
+            }
         }
     }
     assert_eq!(endings, &every_ending());
+    let by_folders = [
+        ByFolders::NoneApplies,
+        ByFolders::NobodyIsPassedOver,
+        ByFolders::SomebodyIsPassedOver,
+    ];
+    let every_way = by_folders.map(|by_folders| [(false, by_folders), (true, by_folders)]);
+    assert_eq!(folders, &every_way.into_iter().flatten().collect());
 }
 
 fn every_ending() -> BTreeSet<Ending> {

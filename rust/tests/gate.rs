@@ -29,13 +29,13 @@ fn the_gate_counts_both_parts() {
 
 /// The last line of the gate is this one, and it succeeds only if nothing failed.
 fn assert_gate(rt: Part, make: Part, last_line: &str) {
-    let folder = Path::new(env!("CARGO_TARGET_TMPDIR")).join("gate");
-    fs::create_dir_all(&folder).expect("cargo's folder for tests takes another");
-    stand_in(&folder.join("rt"), rt);
-    stand_in(&folder.join("make"), make);
+    let directory = Path::new(env!("CARGO_TARGET_TMPDIR")).join("gate");
+    fs::create_dir_all(&directory).expect("cargo's directory for tests takes another");
+    stand_in(&directory.join("rt"), rt);
+    stand_in(&directory.join("make"), make);
     let path = std::env::var("PATH").expect("there is a search path");
     let ended = Command::new(gate())
-        .env("PATH", format!("{}:{path}", folder.display()))
+        .env("PATH", format!("{}:{path}", directory.display()))
         .output()
         .expect("the gate starts");
     let printed = String::from_utf8_lossy(&ended.stdout);
@@ -47,7 +47,7 @@ fn assert_gate(rt: Part, make: Part, last_line: &str) {
 /// A program that prints a line and ends with a status, except where it is asked for its version.
 fn stand_in(program: &Path, (line, status): Part) {
     let text = format!("#!/bin/sh\n[ \"$1\" = version ] || {{ echo '{line}'; exit {status}; }}\n");
-    fs::write(program, text).expect("the folder takes a file");
+    fs::write(program, text).expect("the directory takes a file");
     let for_all = fs::Permissions::from_mode(0o755);
     fs::set_permissions(program, for_all).expect("our own file");
 }

@@ -5,6 +5,7 @@ mod support;
 mod twin;
 mod yardstick;
 
+use support::answers::{accepted, answer, permission_set, refused, report};
 use support::boundary::custodian_only;
 use support::call::{library, Call, Counts, Outcome};
 use support::compare::compare;
@@ -17,42 +18,17 @@ use support::tables::{get_field, set_field, Table, Tables};
 /// Privileges to try where the paper names none.
 const SOME_PRIVILEGES: [u32; 5] = [0, 1, 127, 255, u32::MAX];
 
-/// Makes the call on all three, which must agree, and returns number and result.
-fn answer(image: &mut [u8], call: Call) -> (u32, u32) {
-    let Outcome { number, result, .. } = compare(image, &call, "no seed");
-    (number, result)
-}
-
 /// Makes the call on a fresh sample.
 fn on_sample(call: Call) -> (u32, u32) {
     answer(&mut sample().image(), call)
-}
-
-fn refused(number: u32) -> (u32, u32) {
-    (number, 0)
-}
-
-fn accepted(result: u32) -> (u32, u32) {
-    (0, result)
-}
-
-fn permission_set(image: &mut [u8], subject: u32, role: u32, item: u32) -> (u32, u32) {
-    answer(
-        image,
-        Call::PermissionSet {
-            subject,
-            role,
-            item,
-        },
-    )
 }
 
 #[test]
 fn the_image_is_laid_out_as_the_paper_says() {
     let mut image = sample().image();
     let header: Vec<u32> = (0..9).map(|field| get_field(&image, field)).collect();
-    assert_eq!(header, [6, 36, 1, 120, 5, 160, 4, 256, 316]);
-    assert_eq!(image.len(), 316);
+    assert_eq!(header, [6, 36, 1, 120, 5, 160, 4, 256, 336]);
+    assert_eq!(image.len(), 336);
     assert_eq!(answer(&mut image, Call::Check), accepted(0));
 }
 
@@ -79,7 +55,7 @@ fn the_twelve_sets() {
 }
 
 /// Asker, role, item; then rule, group, set of the rule, of everyone, of the role, of operations, and
-/// the steps from the item's owner up to the grant's domain.
+/// the steps from the item's owner up to the grant's domain. No item of the sample is in a folder.
 type Explained = ([u32; 3], [u32; 7]);
 
 #[test]
@@ -136,7 +112,7 @@ fn an_owner_without_an_owner_line() {
 #[test]
 fn an_own_line_of_0_decides_for_the_owner_too() {
     let mut tables = without_owner_line();
-    tables.items.rows[0] = [5, 1, 1];
+    tables.items.rows[0] = [5, 1, 1, 0];
     assert_explains(&tables, ([5, 0, 1], [OWN_LINE, 0, 0, 1, 0, 3, OUTSIDE]));
 }
 
@@ -209,7 +185,7 @@ fn the_lowest_editor_by_the_line_for_everyone() {
 #[test]
 fn an_editor_only_under_a_role() {
     let mut tables = sample();
-    tables.items.rows[0] = [4, 1, 1];
+    tables.items.rows[0] = [4, 1, 1, 0];
     tables.lines.rows.insert(0, [1, ITSELF, 3, 64]);
     tables.grants.rows.insert(0, [1, 8, 3, 3, 64]);
     let image = &mut tables.image();
@@ -276,7 +252,7 @@ fn a_role_granted_by_the_custodian() {
 fn the_steps_of_an_explanation() {
     let mut tables = sample();
     for (owner, role_set, steps) in [(2, 3, 0), (5, 3, 1), (1, 0, OUTSIDE), (4, 0, OUTSIDE)] {
-        tables.items.rows[3] = [owner, 1, 0];
+        tables.items.rows[3] = [owner, 1, 0, 0];
         let (rule, set) = if owner == 4 {
             (OWNER_LINE, 7)
         } else {
@@ -285,7 +261,7 @@ fn the_steps_of_an_explanation() {
         assert_explains(&tables, ([4, 7, 4], [rule, 0, set, 1, role_set, 11, steps]));
     }
     tables.grants.rows[0] = [4, 7, 0, 0, 3];
-    tables.items.rows[3] = [5, 1, 0];
+    tables.items.rows[3] = [5, 1, 0, 0];
     assert_explains(&tables, ([4, 7, 4], [OWN_LINE, 0, 8, 1, 3, 11, 3]));
 }
 
@@ -351,6 +327,7 @@ fn assert_explains(tables: &Tables, (asked, explained): Explained) {
         role_set,
         operations,
         steps,
+        folder: 0,
     };
     assert_answered(tables, asked, explanation);
 }
@@ -447,7 +424,7 @@ fn counts_refused() {
         let counts = outcome.counts.expect("entries were lent");
         assert_eq!(counts.lent(), vec![Counts::BEFORE; entries]);
     }
-    let cut = &mut sample().image()[..315];
+    let cut = &mut sample().image()[..335];
     assert_eq!(count_holders(cut, 0, 31).number, 2);
 }
 
@@ -553,7 +530,7 @@ fn a_binding_by_the_owner_and_by_another() {
     assert_eq!(answer(&mut image, bind_by(2)), accepted(0));
     assert_eq!(permission_set(&mut image, 2, 0, 4), accepted(3));
     let mut expected = sample();
-    expected.items.rows[3] = [2, 1, 0];
+    expected.items.rows[3] = [2, 1, 0, 0];
     assert_eq!(image, expected.image());
 
     assert_eq!(on_sample(bind_by(5)), refused(15));
@@ -586,35 +563,26 @@ fn lengths() {
 
 /// The paper's example of a report: two subjects, and an item without a list that subject 1 owns.
 #[test]
-fn the_report_of_72_bytes() {
+fn the_report_of_76_bytes() {
     let tables = Tables {
         subjects: Table {
             rows: vec![[0, u32::MAX, 0], [0, 0, 0]],
             spare: 0,
         },
         items: Table {
-            rows: vec![[1, 0, 0]],
+            rows: vec![[1, 0, 0, 0]],
             spare: 0,
         },
         ..Tables::default()
     };
     let mut image = tables.image();
-    assert_eq!(image.len(), 72);
+    assert_eq!(image.len(), 76);
     assert_eq!(report(&image), "subject item set\n0 1 4294967295\n1 1 0\n");
     assert_eq!(permission_set(&mut image, 0, 0, 1), accepted(u32::MAX));
     assert_eq!(permission_set(&mut image, 1, 0, 1), accepted(0));
 
-    assert_eq!(report(&image[..71]), "refused 2\n");
-    assert_eq!(answer(&mut image[..71], Call::Check), refused(2));
+    assert_eq!(report(&image[..75]), "refused 2\n");
+    assert_eq!(answer(&mut image[..75], Call::Check), refused(2));
     assert_eq!(report(&[]), "refused 1\n");
     assert_eq!(answer(&mut [], Call::Check), refused(1));
-}
-
-/// The report of the twin and of the yardstick, which must agree.
-fn report(image: &[u8]) -> String {
-    let (mut twins, mut yardsticks) = (Vec::new(), Vec::new());
-    twin::report(image, &mut twins).expect("a vector takes every byte");
-    yardstick::report(image, &mut yardsticks).expect("a vector takes every byte");
-    assert_eq!(twins, yardsticks);
-    String::from_utf8(twins).expect("the report is plain text")
 }

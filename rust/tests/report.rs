@@ -22,7 +22,7 @@ use support::tables::{Table, Tables};
 /// How long the report program may take. It takes some seconds at most.
 const SECONDS: f64 = 60.0;
 
-/// The paper's example of 72 bytes, the sample workshop, a refused image, an image with no item.
+/// The paper's example of 76 bytes, the sample workshop, a refused image, an image with no item.
 #[test]
 fn the_reports_on_file() {
     for name in ["example", "workshop", "refused", "no-items"] {
@@ -38,8 +38,8 @@ fn the_reports_on_file() {
 fn the_report_of_three_pages() {
     let custodian = [0, u32::MAX, 0];
     let below = (1..46).map(|subject| [(subject - 1) / 2, 127, 0]);
-    let list = [1, 1, 1];
-    let under_it = (1..46).map(|owner| [owner, 1, 0]);
+    let list = [1, 1, 1, 0];
+    let under_it = (1..46).map(|owner| [owner, 1, 0, 0]);
     let tables = Tables {
         subjects: full([custodian].into_iter().chain(below)),
         lines: full([
@@ -60,11 +60,11 @@ fn the_report_of_three_pages() {
     assert_same(&twins_report(&image), &wanted, "the image of three pages");
 }
 
-/// A folder can be opened, and cannot be read.
+/// A directory can be opened, and cannot be read.
 #[test]
 fn an_input_that_cannot_be_read() {
-    let folder = File::open(here()).expect("a folder can be opened");
-    let ended = Command::new(report_program()).stdin(folder).output();
+    let directory = File::open(here()).expect("a directory can be opened");
+    let ended = Command::new(report_program()).stdin(directory).output();
     let ended = ended.expect("the report program starts");
     assert_eq!(String::from_utf8_lossy(&ended.stdout), "");
     assert_eq!(
@@ -116,7 +116,7 @@ fn flat(subjects: usize, items: usize) -> Tables {
     rows[0] = [0, u32::MAX, 0];
     Tables {
         subjects: full(rows),
-        items: full(vec![[0, 0, 0]; items]),
+        items: full(vec![[0, 0, 0, 0]; items]),
         ..Tables::default()
     }
 }
@@ -188,7 +188,7 @@ fn report_program() -> PathBuf {
     let program = here().join("../target/bin/report");
     assert!(
         program.is_file(),
-        "the report program is built by `make report` in the folder above"
+        "the report program is built by `make report` in the directory above"
     );
     program
 }

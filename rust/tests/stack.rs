@@ -1,6 +1,6 @@
-//! The stack that the library promises to be enough: every call that searches groups or counts steps,
-//! on the longest chains of groups and the longest searches that fit into an image, on a thread that
-//! has exactly this stack.
+//! The stack that the library promises to be enough: every call that searches groups, counts steps or
+//! follows folders, on the longest chains of groups and of folders and the longest searches that fit into
+//! an image, on a thread that has exactly this stack.
 
 mod support;
 mod twin;
@@ -8,16 +8,16 @@ mod yardstick;
 
 use dacm::{Explanation, Item, Kind, Privileges, Refusal, Role, Rule, Subject, STACK_BYTES};
 use std::thread;
-use support::tables::{Table, Tables};
+use support::sample::{EVERYONE, GROUP};
+use support::tables::{Table, Tables, FOLDER_APPLIES, IS_LIST};
 
-const GROUP: u32 = 1;
-const IS_LIST: u32 = 1;
 const ALL: u32 = Privileges::ALL.0;
 const READ: u32 = Privileges::READ.0;
 const EDIT_LIST: u32 = Privileges::EDIT_LIST.0;
 const LONGEST: usize = 65_536;
 const SUBJECT_BYTES: usize = 12;
 const LINE_BYTES: usize = 16;
+const ITEM_BYTES: usize = 16;
 
 /// A chain of subjects, each below the one before, as many as fit beside these rows. The one item is
 /// a list, which is its own list and the custodian's.
@@ -33,7 +33,7 @@ fn chain(grants: Vec<[u32; 5]>, lines: Vec<[u32; 4]>) -> Tables {
             spare: 0,
         },
         items: Table {
-            rows: vec![[0, 1, IS_LIST]],
+            rows: vec![[0, 1, IS_LIST, 0]],
             spare: 0,
         },
     };
@@ -57,6 +57,14 @@ fn lines_between_the_groups() -> Tables {
     tables
 }
 
+/// Adds lists to the one that is there, as many as fit. Each is under the first list and in the folder
+/// before it, which applies.
+fn add_folders(tables: &mut Tables) {
+    let many = (LONGEST - tables.image().len()) / ITEM_BYTES;
+    let lists = (1..=many as u32).map(|folder| [0, 1, IS_LIST | FOLDER_APPLIES, folder]);
+    tables.items.rows.extend(lists);
+}
+
 /// Does some work on a thread with the promised stack and no more. If the work needs more, the whole
 /// test program ends.
 fn on_promised_stack<T: Send + 'static>(work: impl FnOnce() -> T + Send + 'static) -> T {
@@ -67,18 +75,22 @@ fn on_promised_stack<T: Send + 'static>(work: impl FnOnce() -> T + Send + 'stati
         .expect("the calls return")
 }
 
-/// What the calls that search groups answer, for the deepest subject where they name one, under no
+/// What the calls that need a permission set answer, for this subject where they name one, under no
 /// role. Of the counts it is how many may read.
-fn answers(mut image: Vec<u8>, deepest: Subject) -> [Result<u32, Refusal>; 5] {
-    let list = Item(1);
-    let set = dacm::permission_set(&image, deepest, Role::NONE, list).map(|set| set.0);
+fn answers_on(mut image: Vec<u8>, subject: Subject, list: Item) -> [Result<u32, Refusal>; 5] {
+    let set = dacm::permission_set(&image, subject, Role::NONE, list).map(|set| set.0);
     let readers = dacm::count_holders(&image, list).map(|counts| counts[0]);
     let editor = dacm::find_editor(&image, list).map(|subject| subject.0);
     let (own, none, other) = (Kind::ITSELF, Role::NONE, Subject(1));
     let read = Privileges::READ;
-    let line = dacm::set_line(&mut image, deepest, none, list, own, other, read).map(|()| 0);
-    let gone = dacm::remove_line(&mut image, deepest, none, list, own, other).map(|()| 0);
+    let line = dacm::set_line(&mut image, subject, none, list, own, other, read).map(|()| 0);
+    let gone = dacm::remove_line(&mut image, subject, none, list, own, other).map(|()| 0);
     [set, readers, editor, line, gone]
+}
+
+/// The same on the first list, for the deepest subject.
+fn answers(image: Vec<u8>, deepest: Subject) -> [Result<u32, Refusal>; 5] {
+    answers_on(image, deepest, Item(1))
 }
 
 /// The explanation for the deepest subject, under no role.
@@ -170,6 +182,70 @@ fn steps_from_the_deepest() {
     let explanation = explained.expect("subject and item are in use");
     assert_eq!(explanation.steps, Some(deepest));
     assert_eq!(explanation.role_set, Privileges::ALL);
+}
+
+/// What a line of the first list gives is left on the last one too, through all folders.
+#[test]
+fn the_longest_chain_of_folders() {
+    let mut tables = chain(vec![], vec![[1, EVERYONE, 0, EDIT_LIST | READ]]);
+    tables.subjects.rows.truncate(3);
+    tables.lines.spare = 1;
+    add_folders(&mut tables);
+    let last = tables.items.used() as u32;
+    assert_eq!(last, 4_089, "the longest chain beside three subjects");
+    let subject = Subject(2);
+    let image = tables.image();
+    let explained = Explained::on_way_up(image.clone(), subject, Item(last));
+    assert_eq!(explained.folders, last - 1);
+    assert_eq!(explained.shared, Privileges(EDIT_LIST | READ));
+    let answers = on_promised_stack(move || answers_on(image, subject, Item(last)));
+    let set = EDIT_LIST | READ;
+    assert_eq!(answers, [Ok(set), Ok(3), Ok(1), Ok(0), Ok(0)]);
+}
+
+/// The own sets explained from an item up its folders.
+struct Explained {
+    folders: u32,
+    shared: Privileges,
+}
+
+impl Explained {
+    fn on_way_up(image: Vec<u8>, subject: Subject, item: Item) -> Explained {
+        on_promised_stack(move || {
+            let mut explained = Explained {
+                folders: 0,
+                shared: Privileges::ALL,
+            };
+            let mut item = item;
+            loop {
+                let next = dacm::explain(&image, subject, Role::NONE, item);
+                let next = next.expect("subject and item are in use");
+                explained.shared &= next.own_set();
+                let Some(folder) = next.folder else {
+                    return explained;
+                };
+                explained.folders += 1;
+                item = folder;
+            }
+        })
+    }
+}
+
+/// A search through many groups for each of many folders. The line for everyone gives something, so the
+/// search goes on to the last folder.
+#[test]
+fn groups_and_folders() {
+    let mut tables = lines_between_the_groups();
+    let pairs = tables.lines.used() / 2;
+    tables.subjects.rows.truncate(2 * pairs);
+    tables.lines.rows.truncate(pairs);
+    tables.lines.rows.push([1, EVERYONE, 0, READ]);
+    add_folders(&mut tables);
+    let last = Item(tables.items.used() as u32);
+    let deepest = Subject(tables.subjects.used() as u32 - 2);
+    let image = tables.image();
+    let set = on_promised_stack(move || dacm::permission_set(&image, deepest, Role::NONE, last));
+    assert_eq!(set, Ok(Privileges::READ));
 }
 
 /// The header promises the same stack.

@@ -45,9 +45,9 @@ impl Numbers<4> for LineRow {
     }
 }
 
-impl Numbers<3> for ItemRow {
-    fn numbers(&self) -> [u32; 3] {
-        [self.owner.0, self.list.0, self.flags.0]
+impl Numbers<4> for ItemRow {
+    fn numbers(&self) -> [u32; 4] {
+        [self.owner.0, self.list.0, self.flags.0, self.folder.0]
     }
 }
 
@@ -85,6 +85,7 @@ fn the_rows_of_the_sample() {
         owner: Subject(1),
         list: Item(1),
         flags: Flags::IS_LIST,
+        folder: Item::NONE,
     };
     assert_eq!(tables.subject(Subject::CUSTODIAN), Some(custodian));
     assert_eq!(tables.subject(Subject(4)), Some(technician));
@@ -95,6 +96,22 @@ fn the_rows_of_the_sample() {
         Some(Item::NONE),
         "item 4 has no list"
     );
+}
+
+/// The folder is shown whether it applies or not.
+#[test]
+fn folders() {
+    let mut tables = sample();
+    tables.items.rows[2] = [4, 1, 0, 2];
+    tables.items.rows[3] = [2, 0, 6, 3];
+    let image = tables.image();
+    let tables = dacm::Tables::open(&image).expect("the image is accepted");
+    let folders: Vec<Item> = tables.items().iter().map(|row| row.folder).collect();
+    assert_eq!(folders, [Item::NONE, Item::NONE, Item(2), Item(3)]);
+    let applies = |row: &ItemRow| row.flags.contains(Flags::FOLDER_APPLIES);
+    assert_eq!(tables.items().iter().filter(applies).count(), 1);
+    let flags = tables.item(Item(4)).map(|row| row.flags);
+    assert_eq!(flags, Some(Flags::LOCKED | Flags::FOLDER_APPLIES));
 }
 
 #[test]
@@ -151,7 +168,7 @@ fn the_list_of_the_sample() {
 #[test]
 fn a_list_without_lines_has_no_rows() {
     let mut tables = sample();
-    tables.items.rows[3] = [2, 0, 1];
+    tables.items.rows[3] = [2, 0, 1, 0];
     let image = tables.image();
     let tables = dacm::Tables::open(&image).expect("the image is accepted");
     let lines = tables.lines_of(Item(4)).expect("item 4 is a list");

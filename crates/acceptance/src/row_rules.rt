@@ -107,7 +107,10 @@ fn item_fits(image: &[u8], layout: Layout, item: Item) -> bool
     if !none_or_list(image, layout, row.list) {
         return false;
     }
-    row.flags < ItemRow::FLAGS
+    if !ItemRow::flags_fit(row.flags, row.folder) {
+        return false;
+    }
+    row.folder.0 < item.0
 }
 
 // Lines hold their rules and ascend. A row that holds its rules names a list, so its key comes after that of a row of

@@ -1,4 +1,4 @@
-// The call that explains a permission set.
+// The call that explains an item's own set.
 ghost use mathlib.Core.Path.{_≡_};
 ghost use Rattle.model.specs.Questions.{explain};
 use acceptance::open;
@@ -12,8 +12,8 @@ use permission::explanation::explanation;
 use tables::items::item_used;
 use tables::subjects::subject_used;
 
-// Why the permission set of a subject under a role on an item is what it is. It asks what the permission set call asks. A
-// refused question has 0 in every field but the number.
+// Why the own set of a subject under a role on an item is what it is, and which folder applies too. It asks what the permission
+// set call asks. A refused question has 0 in every field but the number.
 pub fn explain(image: &[u8], subject: Subject, role: Role, item: Item) -> Explanation
     ensures { λ r. ⌜ r ≡ explain (now (image .entry)) (subject .0) (role .0) (item .0) ⌝ }
 {

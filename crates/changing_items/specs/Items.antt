@@ -41,22 +41,22 @@ module _ (x old : ItemRow) (read : x ≡ old) (y : ItemRow) where
   owner-replaced o e = e ∙ rw read
 
 -- The new item's number. It fits its type, because there is a free row.
-module _ (img : List ℕ) (lay : Layout) (c r l f : ℕ) where
-  pub result-item : lay .items .used + 1 ≡ changeResult (tablesBy lay img) (createItem c r l f)
+module _ (img : List ℕ) (lay : Layout) (c r l f p : ℕ) where
+  pub result-item : lay .items .used + 1 ≡ changeResult (tablesBy lay img) (createItem c r l f p)
   unfolding changeResult tablesBy
   result-item = rw (rows-count itemFormat (lay .items) img, add-one)
 
   pub number-fits : (k : ℕ)
-      → k ≡ firstNo (questions (tablesBy lay img) (createItem c r l f))
+      → k ≡ firstNo (questions (tablesBy lay img) (createItem c r l f p))
       → k ≡ 0
       → lay .items .end < 2 ^ 32
       → lay .items .used + 1 < 2 ^ 32
   unfolding questions tablesBy
   number-fits k asked done bound =
-      let passed : Passed (questions (tablesBy lay img) (createItem c r l f)) =
-      passed-first (questions (tablesBy lay img) (createItem c r l f)) tt (sym asked ∙ done) in
+      let passed : Passed (questions (tablesBy lay img) (createItem c r l f p)) =
+      passed-first (questions (tablesBy lay img) (createItem c r l f p)) tt (sym asked ∙ done) in
       let free : length (rowsIn itemFormat (lay .items) img) < (lay .items .end - lay .items .start) / size itemFormat =
-      ltb→lt _ _ (passed .1 .1 .1 .1 .0) in
+      ltb→lt _ _ (passed .1 .1 .1 .1 .1 .0) in
       let few : length (rowsIn itemFormat (lay .items) img) ≡ lay .items .used = rows-count itemFormat (lay .items) img in
       omega arith
 
@@ -65,20 +65,20 @@ module _ (img : List ℕ) (o : Opened) (is : o ≡ opened img) (lay : Layout) (c
   there : lay ≡ layoutOf img
   there = layout-with img o is lay case
 
-  pub item-created : (c r l f : ℕ) (x : ItemRow)
-      → x ≡ itemRow c l f
+  pub item-created : (c r l f p : ℕ) (x : ItemRow)
+      → x ≡ itemRow c l f p
       → new ≡ withRow itemFormat itemsCounter (lay .items) (lay .items .used) x img
       → ((i : ℕ) → Fits w8 (getD img i 0))
-      → a ≡ act img (createItem c r l f) .answer
-      → new ≡ act img (createItem c r l f) .image
+      → a ≡ act img (createItem c r l f p) .answer
+      → new ≡ act img (createItem c r l f p) .image
   unfolding questions after tablesBy
-  item-created c r l f x row e bytes answered =
+  item-created c r l f p x row e bytes answered =
       row-more itemFormat (layoutOf img .items) itemsCounter (tables img .capacities .items) img
       (λ rows. encode (withItems (tables img) rows))
       (items-stored img)
-      (createItem c r l f)
-      a answered m said bytes new (itemRow c l f) refl
-      (λ passed. passed .1 .1 .1 .1 .0)
+      (createItem c r l f p)
+      a answered m said bytes new (itemRow c l f p) refl
+      (λ passed. passed .1 .1 .1 .1 .1 .0)
       (e ∙ rw (row, there) refl)
 
   pub item-bound : (c i l : ℕ)

@@ -11,14 +11,14 @@ use Rattle.model.specs.Image.{Tables, lockedFlag, itemIn}
 use Rattle.model.specs.Questions.{Question, _asks_, firstNo, mayBind}
 use Rattle.laws.specs.Answers.{first-left, first-right}
 
--- The first three questions of create item, about the numbers that it is handed, and the rest. n is the refusal of the first
--- three, or 0.
-module _ (a b c : Bool) (qs : List Question) (n : ℕ) (said : n ≡ firstNo (10 asks a ∷ 13 asks b ∷ 14 asks c ∷ [])) where
-  pub named-no : (n ≡ 0 → ⊥) → n ≡ firstNo (10 asks a ∷ 13 asks b ∷ 14 asks c ∷ qs)
-  named-no h = first-left (10 asks a ∷ 13 asks b ∷ 14 asks c ∷ []) qs n tt said h
+-- The first four questions of create item, about the numbers that it is handed, and the rest. n is the refusal of the first four,
+-- or 0.
+module _ (a b c d : Bool) (qs : List Question) (n : ℕ) (said : n ≡ firstNo (10 asks a ∷ 12 asks b ∷ 13 asks c ∷ 14 asks d ∷ [])) where
+  pub named-no : (n ≡ 0 → ⊥) → n ≡ firstNo (10 asks a ∷ 12 asks b ∷ 13 asks c ∷ 14 asks d ∷ qs)
+  named-no h = first-left (10 asks a ∷ 12 asks b ∷ 13 asks c ∷ 14 asks d ∷ []) qs n tt said h
 
-  pub named-yes : (r : ℕ) → n ≡ 0 → r ≡ firstNo qs → r ≡ firstNo (10 asks a ∷ 13 asks b ∷ 14 asks c ∷ qs)
-  named-yes r h e = first-right (10 asks a ∷ 13 asks b ∷ 14 asks c ∷ []) qs n tt said r h e
+  pub named-yes : (r : ℕ) → n ≡ 0 → r ≡ firstNo qs → r ≡ firstNo (10 asks a ∷ 12 asks b ∷ 13 asks c ∷ 14 asks d ∷ qs)
+  named-yes r h e = first-right (10 asks a ∷ 12 asks b ∷ 13 asks c ∷ 14 asks d ∷ []) qs n tt said r h e
 
 module _ (t : Tables) (c i : ℕ) where
   pub bind-custodian : c ≡ 0 → true ≡ mayBind t c i

@@ -22,10 +22,19 @@ use store::replace_item;
 
 mod questions;
 
-// Creates an item, which the caller owns. A list governs it, or none where `list` is 0. The result is the item's number.
-pub fn create_item(image: &mut [u8], caller: Subject, role: Role, list: Item, flags: u32) -> Answer
-    ensures { λ r. ⌜ r ≡ act (now (image .entry)) (createItem (caller .0) (role .0) (list .0) flags) .answer ⌝ }
-    ensures { λ _. ⌜ now (image .exit) ≡ act (now (image .entry)) (createItem (caller .0) (role .0) (list .0) flags) .image ⌝ }
+// Creates an item, which the caller owns. A list governs it, or none where `list` is 0; it is in a folder, or in none where
+// `folder` is 0, and stays there. The result is the item's number.
+pub fn create_item(
+    image: &mut [u8],
+    caller: Subject,
+    role: Role,
+    list: Item,
+    flags: u32,
+    folder: Item,
+) -> Answer
+    ensures { λ r. ⌜ r ≡ act (now (image .entry)) (createItem (caller .0) (role .0) (list .0) flags (folder .0)) .answer ⌝ }
+    ensures { λ _. ⌜ now (image .exit)
+        ≡ act (now (image .entry)) (createItem (caller .0) (role .0) (list .0) flags (folder .0)) .image ⌝ }
 {
     let opened = open(image);
     let layout = match opened {
@@ -34,11 +43,11 @@ pub fn create_item(image: &mut [u8], caller: Subject, role: Role, list: Item, fl
             return Answer::refused(number);
         }
     };
-    let refused = create_refusal(image, layout, caller, role, list, flags);
+    let refused = create_refusal(image, layout, caller, role, list, flags, folder);
     if refused != 0 {
         return Answer::refused(refused);
     }
-    add_item(image, layout, ItemRow::new(caller, list, flags));
+    add_item(image, layout, ItemRow::new(caller, list, flags, folder));
     let table = layout.items;
     Answer::done(table.used + 1)
 }
@@ -84,7 +93,7 @@ pub fn hand_over(image: &mut [u8], caller: Subject, item: Item, owner: Subject) 
     Answer::done(0)
 }
 
-// Writes the item's row as it was read, but for the list.
+// Writes the item's row as it was read, its folder too, but for the list.
 fn put_list(image: &mut [u8], layout: Layout, item: Item, list: Item)
     ensures { λ _. let t = tablesAt layout (image .entry) in
         ⌜ now (image .exit)

@@ -19,6 +19,7 @@ use permission::decision::operations;
 use rows::read::item_at;
 use tables::free::item_free;
 use tables::items::item_used;
+use tables::items::none_or_item;
 use tables::items::none_or_list;
 use tables::subjects::subject_used;
 
@@ -29,10 +30,12 @@ pub fn create_refusal(
     role: Role,
     list: Item,
     flags: u32,
+    folder: Item,
 ) -> u32
-    ensures { λ r. ⌜ r ≡ firstNo (questions (tablesAt layout (image .entry)) (createItem (caller .0) (role .0) (list .0) flags)) ⌝ }
+    ensures { λ r. let t = tablesAt layout (image .entry) in
+        ⌜ r ≡ firstNo (questions t (createItem (caller .0) (role .0) (list .0) flags (folder .0))) ⌝ }
 {
-    let number = named_refusal(image, layout, caller, role, list, flags);
+    let number = named_refusal(image, layout, caller, role, list, flags, folder);
     if number != 0 {
         return number;
     }
@@ -48,7 +51,7 @@ pub fn create_refusal(
     0
 }
 
-// The questions of create item about the numbers that it is handed: 10, 13 and 14.
+// The questions of create item about the numbers that it is handed: 10, 12, 13 and 14.
 fn named_refusal(
     image: &[u8],
     layout: Layout,
@@ -56,17 +59,21 @@ fn named_refusal(
     role: Role,
     list: Item,
     flags: u32,
+    folder: Item,
 ) -> u32
     ensures { λ r. let t = tablesAt layout (image .entry) in
-        ⌜ r ≡ firstNo (take 3 (questions t (createItem (caller .0) (role .0) (list .0) flags))) ⌝ }
+        ⌜ r ≡ firstNo (take 4 (questions t (createItem (caller .0) (role .0) (list .0) flags (folder .0)))) ⌝ }
 {
     if !subject_used(image, layout, caller) {
         return refusal::UNKNOWN_CALLER;
     }
+    if !none_or_item(image, layout, folder) {
+        return refusal::UNKNOWN_ITEM;
+    }
     if !none_or_list(image, layout, list) {
         return refusal::NOT_A_LIST;
     }
-    if ItemRow::FLAGS <= flags {
+    if !ItemRow::flags_fit(flags, folder) {
         return refusal::OUT_OF_RANGE;
     }
     0

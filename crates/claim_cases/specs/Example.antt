@@ -21,7 +21,7 @@ use Rattle.laws.specs.KeyOrder.{same-self}
 use Rattle.strangers.specs.Sequences.{run, writing, Stranger, Covered, Unchanged}
 use Rattle.strangers.specs.Sequences.Step.{changes, reads}
 use Rattle.strangers.specs.Sequences.Reading.{asks}
-use Rattle.strangers.specs.Walk.{walk}
+use Rattle.strangers.specs.Walk.{walk, foldersWithin}
 use Rattle.strangers.specs.Demand3.{demand-3}
 use Rattle.claim_cases.specs.Without.Clause.{nothing}
 use Rattle.claim_cases.specs.Whole.{covered-whole}
@@ -58,7 +58,7 @@ computed : All T
     ∷ not (same (act stop its-call .image) stop)
     ∷ eqb (permissionSet (tables stop) 4 7 2) 11
     ∷ [])
-unfolding workshop computing proper coveredBut run writing walk
+unfolding workshop computing proper coveredBut run writing walk foldersWithin
 computed = tt and tt and tt and tt and tt and tt
 
 pub covered : Covered stop (example .second) 4 7 2

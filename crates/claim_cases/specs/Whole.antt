@@ -10,14 +10,17 @@ use Rattle.model.specs.WhoAndWhat.{editList, has}
 use Rattle.model.specs.Image.{Tables, tables, privilegesIn}
 use Rattle.model.specs.Calls.{Change, callerOf}
 use Rattle.laws.specs.Tests.{All-map, All-append}
-use Rattle.strangers.specs.Sequences.{Step, run, writing, Followed, Insider, Stranger, Claim, Covered}
+use Rattle.strangers.specs.Sequences.{Step, run, writing, Start, Followed, Insider, Stranger, Claim, Covered}
+use Rattle.strangers.specs.Sequences.Start.{the-document, its-folder}
 use Rattle.strangers.specs.Sequences.Followed.{its-list, list-of}
 use Rattle.strangers.specs.Sequences.Insider.{the-custodian, owns-document, owns-list, may-edit}
 use Rattle.strangers.specs.Demand3.{demand-3}
-use Rattle.claim_cases.specs.Without.{Clause, same-clause, clausesOfWay, clausesOfEditor, clausesOf}
+use Rattle.claim_cases.specs.Without.{Clause, same-clause, clausesOfFolder, clausesOfWay, clausesOfEditor, clausesOf}
 use Rattle.claim_cases.specs.Without.{StrangerBut, ClaimBut, CoveredBut, Without}
-use Rattle.claim_cases.specs.Without.Clause.{nothing, list-of-document, lists-of-lists, custodian-inside}
-use Rattle.claim_cases.specs.Without.Clause.{document-owner-inside, list-owner-inside, editor-inside, editor-without-operation}
+use Rattle.claim_cases.specs.Without.Clause.{nothing, folder-of-document, folders-of-folders}
+use Rattle.claim_cases.specs.Without.Clause.{list-of-document, list-of-folder, lists-of-lists}
+use Rattle.claim_cases.specs.Without.Clause.{custodian-inside, document-owner-inside, folder-owner-inside, list-owner-inside}
+use Rattle.claim_cases.specs.Without.Clause.{editor-inside, editor-without-operation}
 use Rattle.claim_cases.specs.Without.Clause.{no-role-of-insiders, caller-present, asker-present, document-present}
 use Rattle.claim_cases.specs.Without.Clause.{role-granted, grantor-silent}
 use Rattle.claim_cases.specs.Insiders.{orIf}
@@ -29,8 +32,13 @@ distinct j k = go (same-clause j k)
     go (yes e) t = absurd t
     go (no d) t = d
 
+folder-counts : {t : Tables} {document d : ℕ} (s : Start t document d) → All (λ c. nothing ≢ c) (clausesOfFolder s)
+folder-counts the-document = (distinct nothing folder-of-document tt, tt)
+folder-counts (its-folder s leads) = (distinct nothing folders-of-folders tt, folder-counts s)
+
 way-counts : {t : Tables} {document a : ℕ} (f : Followed t document a) → All (λ c. nothing ≢ c) (clausesOfWay f)
-way-counts (its-list d some-list) = (distinct nothing list-of-document tt, tt)
+way-counts (its-list the-document some-list) = (distinct nothing list-of-document tt, tt)
+way-counts (its-list (its-folder d leads) some-list) = (distinct nothing list-of-folder tt, folder-counts d)
 way-counts (list-of f some-list) = (distinct nothing lists-of-lists tt, way-counts f)
 
 editor-counts : (t : Tables) (s : ℕ) → All (λ c. nothing ≢ c) (clausesOfEditor t s)
@@ -42,7 +50,8 @@ editor-counts t s = go (has editList (privilegesIn (t .subjects) s))
 
 counts : {t : Tables} {document s : ℕ} (i : Insider t document s) → All (λ c. nothing ≢ c) (clausesOf i)
 counts the-custodian = (distinct nothing custodian-inside tt, tt)
-counts (owns-document d) = (distinct nothing document-owner-inside tt, tt)
+counts (owns-document the-document) = (distinct nothing document-owner-inside tt, tt)
+counts (owns-document (its-folder s leads)) = (distinct nothing folder-owner-inside tt, folder-counts s)
 counts (owns-list f) = (distinct nothing list-owner-inside tt, way-counts f)
 counts {t} {document} {s} (may-edit f allowed) = (
   distinct nothing editor-inside tt,

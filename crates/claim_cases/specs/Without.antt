@@ -14,17 +14,22 @@ use Rattle.model.specs.Image.{Tables, tables, privilegesIn, subjectUsed, itemUs
 use Rattle.model.specs.Permission.{grantOf}
 use Rattle.model.specs.Calls.{Change, callerOf, Handed}
 use Rattle.model.specs.Questions.{Accepted}
-use Rattle.strangers.specs.Sequences.{Step, run, writing, Followed, Insider, Unchanged}
+use Rattle.strangers.specs.Sequences.{Step, run, writing, Start, Followed, Insider, Unchanged}
+use Rattle.strangers.specs.Sequences.Start.{the-document, its-folder}
 use Rattle.strangers.specs.Sequences.Followed.{its-list, list-of}
 use Rattle.strangers.specs.Sequences.Insider.{the-custodian, owns-document, owns-list, may-edit}
 
 -- The clauses that can be left out; `nothing` leaves none out.
 pub data Clause : Type 0 where
   nothing : Clause
+  folder-of-document : Clause
+  folders-of-folders : Clause
   list-of-document : Clause
+  list-of-folder : Clause
   lists-of-lists : Clause
   custodian-inside : Clause
   document-owner-inside : Clause
+  folder-owner-inside : Clause
   list-owner-inside : Clause
   editor-inside : Clause
   editor-without-operation : Clause
@@ -36,10 +41,16 @@ pub data Clause : Type 0 where
   grantor-silent : Clause
   deriving Discrete as same-clause
 
--- the clauses by which a list is followed, and by which a subject is an insider
+-- The clauses by which the folder that applies to a start is a start too, by which a list is followed, and by which a subject
+-- is an insider.
+
+abbrev pub clausesOfFolder : {t : Tables} {document d : ℕ} → Start t document d → List Clause
+clausesOfFolder the-document = Clause.folder-of-document ∷ []
+clausesOfFolder (its-folder d leads) = Clause.folders-of-folders ∷ clausesOfFolder d
 
 abbrev pub clausesOfWay : {t : Tables} {document a : ℕ} → Followed t document a → List Clause
-clausesOfWay (its-list d some-list) = Clause.list-of-document ∷ []
+clausesOfWay (its-list the-document some-list) = Clause.list-of-document ∷ []
+clausesOfWay (its-list (its-folder d leads) some-list) = Clause.list-of-folder ∷ clausesOfFolder d
 clausesOfWay (list-of a some-list) = Clause.lists-of-lists ∷ clausesOfWay a
 
 -- a subject whose own row lacks the operation is an editor by the lines all the same
@@ -48,7 +59,8 @@ clausesOfEditor t s = cond (has editList (privilegesIn (t .subjects) s)) [] (Cla
 
 abbrev pub clausesOf : {t : Tables} {document s : ℕ} → Insider t document s → List Clause
 clausesOf the-custodian = Clause.custodian-inside ∷ []
-clausesOf (owns-document d) = Clause.document-owner-inside ∷ []
+clausesOf (owns-document the-document) = Clause.document-owner-inside ∷ []
+clausesOf (owns-document (its-folder d leads)) = Clause.folder-owner-inside ∷ clausesOfFolder d
 clausesOf (owns-list a) = Clause.list-owner-inside ∷ clausesOfWay a
 clausesOf {t} {document} {s} (may-edit a allowed) = Clause.editor-inside ∷ clausesOfEditor t s ++ clausesOfWay a
 

@@ -43,8 +43,8 @@ pub extern "C" fn dacm_permission_set(
     asking::sets::permission_set(image, subject, role, item)
 }
 
-// Why the permission set of a subject under a role on an item is what it is: the rule that decided, the subject whose group
-// line that was, and the sets that are put together. A refused question has 0 in every field but the number.
+// Why the own set of a subject under a role on an item is what it is: the rule that decided, the subject whose group line that
+// was, the sets that are put together, and the folder that applies too. A refused question has 0 in every field but the number.
 #[no_mangle]
 pub extern "C" fn dacm_explain(
     image: &[u8],
@@ -183,7 +183,8 @@ pub extern "C" fn dacm_remove_line(
     changing_lines::remove_line(image, caller, role, list, kind, subject)
 }
 
-// Creates an item, which the caller owns. A list governs it, or none where `list` is 0. The result is the item's number.
+// Creates an item, which the caller owns. A list governs it, or none where `list` is 0; it is in a folder, or in none where
+// `folder` is 0, and stays there. The result is the item's number.
 #[no_mangle]
 pub extern "C" fn dacm_create_item(
     image: &mut [u8],
@@ -191,11 +192,13 @@ pub extern "C" fn dacm_create_item(
     role: Role,
     list: Item,
     flags: u32,
+    folder: Item,
 ) -> Answer
-    ensures { λ r. ⌜ r ≡ act (now (image .entry)) (createItem (caller .0) (role .0) (list .0) flags) .answer ⌝ }
-    ensures { λ _. ⌜ now (image .exit) ≡ act (now (image .entry)) (createItem (caller .0) (role .0) (list .0) flags) .image ⌝ }
+    ensures { λ r. ⌜ r ≡ act (now (image .entry)) (createItem (caller .0) (role .0) (list .0) flags (folder .0)) .answer ⌝ }
+    ensures { λ _. ⌜ now (image .exit)
+        ≡ act (now (image .entry)) (createItem (caller .0) (role .0) (list .0) flags (folder .0)) .image ⌝ }
 {
-    changing_items::create_item(image, caller, role, list, flags)
+    changing_items::create_item(image, caller, role, list, flags, folder)
 }
 
 // Binds an item to a list, or to none where `list` is 0. The custodian may, and the owner where the item is not locked.

@@ -1,9 +1,9 @@
 -- The editor search: subjects are tried one after the other, from the first after the custodian; and whether a subject may edit.
-use mathlib.Core.Bool.{Bool, true, false, not, _&&_}
+use mathlib.Core.Bool.{Bool, true, false, not, _&&_, cond}
 use mathlib.Core.List.{List}
 use mathlib.Core.Logic.{inl, inr}
 use mathlib.Core.Option.{none, some, Option·getD}
-use mathlib.Core.Path.{_≡_, sym, ap, _∙_}
+use mathlib.Core.Path.{_≡_, sym, _∙_}
 use Prim.Native.Nat.{ℕ, _+_, _<_, _≤_}
 use native.Mathlib.Omega.{arith}
 use borrow.Author.Tests.{ne-eqb, eq-eqb, not-true, not-false}
@@ -14,13 +14,13 @@ use Rattle.model.specs.declared.Subject.{Subject}
 use Rattle.model.specs.Lists.{isThere}
 use Rattle.model.specs.WhoAndWhat.{editList, has}
 use Rattle.model.specs.Image.{Tables, widthOf, subjectFormat, tablesBy, privilegesIn, itemIn}
-use Rattle.model.specs.Permission.{partOn, permissionSet}
+use Rattle.model.specs.Permission.{partOn, folderOn, leadsUp, permissionSet}
 use Rattle.model.specs.Calls.{isEditor, lowestEditor}
 use Rattle.laws.specs.Tests.{lt-eq-gt}
 use Rattle.laws.specs.Counts.{none-lowest, some-lowest}
 use Rattle.laws.specs.Sets.{has-and}
 use Rattle.laws.specs.Rows.{rows-count}
-use Rattle.permission.specs.Sets.{set-shared}
+use Rattle.permission.specs.Sets.{set-has}
 use Rattle.holding.specs.declared.editors.SoughtEditor.{SoughtEditor}
 use Rattle.holding.specs.declared.editors.SoughtEditor.the-variants.{Editor, Nobody}
 use Rattle.holding.specs.Found.{foundEditor}
@@ -84,20 +84,43 @@ pub subjects-used : (lay : Layout) (img : List ℕ) → lay .subjects .used ≡ 
 unfolding tablesBy
 subjects-used lay img = sym (rows-count (subjectFormat (widthOf lay)) (lay .subjects) img)
 
--- Whether s may edit list a, whose row is x: without the position in its own row it may not, and otherwise the lines' part
--- decides.
-module _ (t : Tables) (s a : ℕ) (x : ItemRow) (read : x ≡ itemIn (t .items) a) (needed : ℕ) (position : needed ≡ editList) (own : ℕ)
-    (its-own : own ≡ privilegesIn (t .subjects) s) (b : Bool) (said : b ≡ has needed own) where
-  asked-both : has editList (permissionSet t s 0 a) ≡ (b && has editList (partOn t s x))
-  asked-both =
-      let held : has editList (privilegesIn (t .subjects) s) ≡ b = rw (← its-own, ← position) (sym said) in
-      ap (has editList) (sym (set-shared t s a x read))
-      ∙ has-and editList (privilegesIn (t .subjects) s) (partOn t s x)
-      ∙ ap (λ (c : Bool). c && has editList (partOn t s x)) held
+-- Whether s may edit list a, whose row is x. One test after the other: the position must be in its own row, in the lines' part and,
+-- where a folder f applies, in the folder's permission set.
+module _ (t : Tables) (s a : ℕ) (x : ItemRow) (read : x ≡ itemIn (t .items) a) (needed : ℕ) (position : needed ≡ editList) where
+  module _ (own : ℕ) (its-own : own ≡ privilegesIn (t .subjects) s) (b : Bool) (said : b ≡ has needed own) where
+    asked : has editList (permissionSet t s 0 a)
+        ≡ (b && has editList (partOn t s x)
+        && cond (leadsUp a (folderOn x)) (has editList (permissionSet t s 0 (folderOn x))) true)
+    asked =
+        let held : has editList (privilegesIn (t .subjects) s) ≡ b = rw (← its-own, ← position) (sym said) in
+        set-has t s a x read editList
+        ∙ rw held
 
-  pub edit-no : not b ≡ true → false ≡ has editList (permissionSet t s 0 a)
-  edit-no h = rw (asked-both, not-true b h)
+    pub edit-no : not b ≡ true → false ≡ has editList (permissionSet t s 0 a)
+    edit-no h = rw (asked, not-true b h)
 
-  pub edit-by-lines : not b ≡ false → (part : ℕ) → part ≡ partOn t s x → (r : Bool) → r ≡ has needed part
-      → r ≡ has editList (permissionSet t s 0 a)
-  edit-by-lines h part its-part r e = rw (asked-both, not-false b h) (e ∙ rw (position, its-part))
+    module _ (yes-own : not b ≡ false) (part : ℕ) (its-part : part ≡ partOn t s x) (c : Bool) (said-part : c ≡ has needed part) where
+      asked-part : has editList (permissionSet t s 0 a)
+          ≡ (c && cond (leadsUp a (folderOn x)) (has editList (permissionSet t s 0 (folderOn x))) true)
+      asked-part =
+          let held : has editList (partOn t s x) ≡ c = rw (← its-part, ← position) (sym said-part) in
+          asked ∙ rw (not-false b yes-own, held)
+
+      pub edit-not-by-lines : not c ≡ true → false ≡ has editList (permissionSet t s 0 a)
+      edit-not-by-lines h = rw (asked-part, not-true c h)
+
+      module _ (yes-part : not c ≡ false) (f : ℕ) (above : f ≡ folderOn x) (d : Bool) (leads : d ≡ leadsUp a f) where
+        asked-folder : has editList (permissionSet t s 0 a)
+            ≡ cond d (has editList (permissionSet t s 0 f)) true
+        asked-folder = asked-part ∙ rw (not-false c yes-part, ← above, ← leads)
+
+        pub edit-by-lines : not d ≡ true → true ≡ has editList (permissionSet t s 0 a)
+        edit-by-lines h = rw (asked-folder, not-true d h)
+
+        pub edit-by-folder : not d ≡ false
+            → (set : ℕ)
+            → set ≡ permissionSet t s 0 f
+            → (r : Bool)
+            → r ≡ has needed set
+            → r ≡ has editList (permissionSet t s 0 a)
+        edit-by-folder h set of-folder r e = rw (asked-folder, not-false d h) (e ∙ rw (position, of-folder))

@@ -12,11 +12,16 @@ use model::Item;
 use model::ItemRow;
 use model::Layout;
 use model::Privileges;
+use model::Role;
 use model::Subject;
-use permission::decision::permissions_on;
+use model::intersection;
+use permission::decision::own_set_on;
+use permission::decision::permissions;
+use permission::folders::leads_up;
 use rows::read::item_at;
 
-// Counts one subject's set after the other, from the custodian's on. The item's row is read once.
+// Counts one subject's set after the other, from the custodian's on. The item's row is read once, a folder's row once for each
+// subject.
 pub fn count_subjects(image: &[u8], layout: Layout, item: Item, counts: &mut [u32])
     ensures { λ _. let t = tablesAt layout (image .entry) in
         ⌜ now (counts .exit) ≡ holderCounts t (item .0) (length (now (counts .entry))) ⌝ }
@@ -33,13 +38,18 @@ pub fn count_subjects(image: &[u8], layout: Layout, item: Item, counts: &mut [u3
     }
 }
 
-// The permission set of a subject on an item whose row was read before. The item's number is handed over so that the contract
-// can name it.
+// The permission set of a subject on an item whose row was read before: its own set, and where a folder applies, what that shares
+// with the folder's permission set.
 fn set_on(image: &[u8], layout: Layout, subject: Subject, item: Item, row: ItemRow) -> Privileges
     requires { ⌜ row ≡ itemIn (tablesAt layout image .items) (item .0) ⌝ }
     ensures { λ r. ⌜ r ≡ permissionSet (tablesAt layout (image .entry)) (subject .0) 0 (item .0) ⌝ }
 {
-    permissions_on(image, layout, subject, row)
+    let own = own_set_on(image, layout, subject, row);
+    let folder = row.applied_folder();
+    if !leads_up(item, folder) {
+        return own;
+    }
+    intersection(own, permissions(image, layout, subject, Role(0), folder))
 }
 
 fn clear(counts: &mut [u32])

@@ -6,14 +6,17 @@ ghost use Rattle.model.specs.Permission.{permissionSet};
 ghost use Rattle.model.specs.Calls.{lowestEditor};
 ghost use Rattle.model.specs.Lent.{tablesAt};
 ghost use Rattle.holding.specs.Found.{foundEditor};
+use lines::lines_part;
 use model::Item;
 use model::ItemRow;
 use model::Layout;
+use model::Role;
 use model::SET_LINE;
 use model::Subject;
 use model::has;
 use model::needed_position;
-use permission::lines::lines_part;
+use permission::decision::permissions;
+use permission::folders::leads_up;
 use rows::read::item_at;
 use tables::subjects::privileges_of;
 
@@ -41,8 +44,8 @@ pub fn lowest_editor(image: &[u8], layout: Layout, list: Item) -> SoughtEditor
     SoughtEditor::Nobody
 }
 
-// Whether a subject may edit a list without claiming a role. The list's row was read before, and its number is handed over so
-// that the contract can name it. Lines are looked up only if the subject may edit lists at all.
+// Whether a subject may edit a list without claiming a role. The list's row was read before. Lines are looked up only if the
+// subject may edit lists at all, and folders only if the list's own lines allow it.
 fn may_edit(image: &[u8], layout: Layout, subject: Subject, list: Item, row: ItemRow) -> bool
     requires { ⌜ row ≡ itemIn (tablesAt layout image .items) (list .0) ⌝ }
     ensures { λ r. ⌜ r ≡ has editList (permissionSet (tablesAt layout (image .entry)) (subject .0) 0 (list .0)) ⌝ }
@@ -51,5 +54,12 @@ fn may_edit(image: &[u8], layout: Layout, subject: Subject, list: Item, row: Ite
     if !has(needed, privileges_of(image, layout, subject)) {
         return false;
     }
-    has(needed, lines_part(image, layout, subject, row))
+    if !has(needed, lines_part(image, layout, subject, row)) {
+        return false;
+    }
+    let folder = row.applied_folder();
+    if !leads_up(list, folder) {
+        return true;
+    }
+    has(needed, permissions(image, layout, subject, Role(0), folder))
 }

@@ -49,7 +49,7 @@ all-numbered t (setGrant c s r d v) = tt
 all-numbered t (removeGrant c s r) = tt
 all-numbered t (setLine c r a k s v) = tt
 all-numbered t (removeLine c r a k s) = tt
-all-numbered t (createItem c r a f) = tt
+all-numbered t (createItem c r a f p) = tt
 all-numbered t (bind c i a) = tt
 all-numbered t (handOver c i o) = tt
 

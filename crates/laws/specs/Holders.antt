@@ -3,6 +3,7 @@
 use mathlib.Core.Bool.{true}
 use mathlib.Core.List.{List, _++_}
 use mathlib.Core.Logic.{_≢_}
+use mathlib.Core.Option.{none}
 use mathlib.Core.Path.{_≡_, sym, ap}
 use Prim.Native.Nat.{ℕ, _<_, _≤_}
 use borrow.Author.Tests.{eqb-true, ne-eqb}
@@ -12,12 +13,13 @@ use Rattle.model.specs.declared.Answer.{Answer}
 use Rattle.model.specs.Lists.{howMany}
 use Rattle.model.specs.WhoAndWhat.{custodian, everything, positionsOf, has}
 use Rattle.model.specs.Image.{Tables, widthIn, tables, itemUsed}
-use Rattle.model.specs.Permission.{permissionSet, permissionUnder, operationUnder, objectUnder, partOn, decidingRule, everyoneSet}
+use Rattle.model.specs.Permission.{permissionSet, ownUnder, operationUnder, objectUnder, partOn, decidingRule, everyoneSet}
 use Rattle.model.specs.Calls.{holders, holderCounts}
 use Rattle.model.specs.Calls.Ask.{permissionSetOf}
 use Rattle.model.specs.Questions.{firstNo, imageQuestions, holdersQuestions, check, Accepted, ask, countHolders}
 use Rattle.laws.specs.Tests.{T-true}
 use Rattle.laws.specs.Counts.{how-many-most, how-many-some, how-many-same, each-count, each-at}
+use Rattle.laws.specs.Folders.{permission-all}
 use Rattle.laws.specs.Sets.{has-or, has-and, has-everything}
 use Rattle.laws.specs.WellFormed.{WellFormed, Passed}
 use Rattle.laws.specs.Answers.{call-checked, call-passed}
@@ -25,12 +27,15 @@ use Rattle.laws.specs.Back.{tables-well-formed}
 use Rattle.laws.specs.Asks.{asked-set}
 use Rattle.laws.specs.Kept.{custodian-has}
 
--- the custodian holds every position on every item
-custodian-holds : (t : Tables) → WellFormed t → (i n : ℕ) → n < positionsOf (widthIn t) → has n (permissionSet t custodian 0 i) ≡ true
-unfolding permissionUnder operationUnder objectUnder partOn decidingRule everyoneSet
-custodian-holds t well i n h =
+-- the custodian holds every position on every item: they are all in its own set there
+custodian-owns : (t : Tables) → WellFormed t → (n : ℕ) → n < positionsOf (widthIn t) → (i : ℕ) → has n (ownUnder t custodian none i) ≡ true
+unfolding ownUnder operationUnder objectUnder partOn decidingRule everyoneSet
+custodian-owns t well n h i =
     let all : has n (everything (widthIn t)) ≡ true = has-everything (widthIn t) n h in
     rw (custodian-has t well, has-and n, has-or n, all)
+
+custodian-holds : (t : Tables) → WellFormed t → (i n : ℕ) → n < positionsOf (widthIn t) → has n (permissionSet t custodian 0 i) ≡ true
+custodian-holds t well i n h = permission-all t custodian none n (custodian-owns t well n h) i
 
 module _ (img : List ℕ) (i : ℕ) (old : List ℕ) where
   pub refused-untouched : countHolders img i old .answer .number ≢ 0 → countHolders img i old .counts ≡ old

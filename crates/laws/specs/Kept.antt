@@ -9,7 +9,7 @@ use native.Mathlib.Nat.{not-suc-le-zero}
 use native.Mathlib.Omega.{arith}
 use borrow.Author.Tests.{eqb-true}
 use lib.Bits.{and-le-l}
-use lib.Dec.{T, eqb, ltb, ltb→lt, lt→ltb, eqb→eq}
+use lib.Dec.{T, eqb, ltb, ltb→lt, lt→ltb, eqb→eq, eqb·suc-zero}
 use lib.ListN.{length, set, length-append, length-set}
 use Rattle.model.specs.declared.SubjectRow.{SubjectRow}
 use Rattle.model.specs.declared.GrantRow.{GrantRow}
@@ -19,7 +19,7 @@ use Rattle.model.specs.Lists.{All, every, everyNumbered, isThere}
 use Rattle.model.specs.Sorted.{find, put, cut, ascending}
 use Rattle.model.specs.Tree.{inTree}
 use Rattle.model.specs.WhoAndWhat.{custodian, everything, has, within}
-use Rattle.model.specs.Image.{Tables, widthIn, subjectFormat, grantFormat, lineFormat, itemFormat}
+use Rattle.model.specs.Image.{Tables, noneOrItem, widthIn, subjectFormat, grantFormat, lineFormat, itemFormat}
 use Rattle.model.specs.Image.{subjectRow, grantRow, lineRow, itemRow, noSubject, noItem, subjectIn}
 use Rattle.model.specs.Image.{parentIn, privilegesIn, subjectUsed, itemIn, itemUsed, isList, noneOrList}
 use Rattle.model.specs.Image.{subjectRules, grantRules, lineRules, itemRules, grantKey, lineKey, blockOf}
@@ -97,6 +97,13 @@ module _ (t : Tables) where
   lines-ascending h = and-r (every (lineRules (t .subjects) (t .items)) (t .lines)) (ascending lineKey (t .lines)) h
 
 -- A row's rules still hold if every subject in use stays in use and every access list stays one.
+
+-- no item, or one in use, has a lower number than the next new item
+folder-before : (items : List ItemRow) (p : ℕ) → T (noneOrItem items p) → T (ltb p (suc (length items)))
+folder-before items zero h = lt→ltb 0 (suc (length items)) (omega arith)
+folder-before items (suc n) h =
+    let used : T (ltb n (length items)) = rw (eqb·suc-zero n) at h in
+    lt→ltb (suc n) (suc (length items)) (omega (arith, ltb→lt n (length items) used))
 
 -- an access list stays one if no item is removed and the flags are kept
 list-kept : (old new : List ItemRow)
@@ -419,7 +426,9 @@ well-formed-after t (setGrant c s r d v) h w q = grant-put t w (grantRow s r c d
 well-formed-after t (removeGrant c s r) h w q = grant-cut t w (s ∷ r ∷ [])
 well-formed-after t (setLine c r a k s v) h w q = line-put t w (lineRow a k s v) (omega arith, search and-i depth 12) (search q)
 well-formed-after t (removeLine c r a k s) h w q = line-cut t w (a ∷ k ∷ s ∷ [])
-well-formed-after t (createItem c r a f) h w q = item-more t w (itemRow c a f) (search ltb→lt) (omega arith, search and-i depth 12)
+well-formed-after t (createItem c r a f p) h w q =
+    let lower : T (ltb p (suc (length (t .items)))) = folder-before (t .items) p (search q) in
+    item-more t w (itemRow c a f p) (search ltb→lt) (omega arith, search and-i depth 12)
 well-formed-after t (bind c i a) h w q =
     let there : T (itemUsed (t .items) i) = search q in
     let old : GoodItem t i (itemIn (t .items) i) = item-good t w i there in

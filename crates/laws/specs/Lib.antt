@@ -1,6 +1,6 @@
 -- Theorems about the definitions of `model` alone; specs/Lib.antt of `model` lists the files with these definitions. Some
 -- theorems have the form in which a proof about code needs them.
--- First the laws of the general definitions: tests, counts, sorted tables, sets, trees, rows by number, questions.
+-- First the laws of the general definitions: tests, counts, sorted tables, sets, trees, folders, rows by number, questions.
 pub mod Tests
 pub mod Counts
 pub mod KeyOrder
@@ -8,6 +8,7 @@ pub mod Sorted
 pub mod Sets
 pub mod Tree
 pub mod Steps
+pub mod Folders
 pub mod Numbered
 pub mod WellFormed
 pub mod Answers
@@ -34,6 +35,8 @@ pub mod Named
 pub mod Standing
 pub mod Nearest
 pub mod Reasons
+-- Along the folders that apply, what they explain is the permission set.
+pub mod Shared
 -- Then steps, which the call and an explanation answer.
 pub mod HowFar
 -- Last what document 02, P4, changes of equation 8 as printed.

@@ -1,9 +1,9 @@
--- Explanations (document 02, P1). The fields, put together by document 01's rules, are the permission set. The rule, the group and
+-- Explanations (document 02, P1). The fields, put together by document 01's rules, are the item's own set. The rule, the group and
 -- the rule's set say of the rows what decided, and no others would.
 use mathlib.Core.List.{List, _++_}
 use mathlib.Core.Logic.{inl, inr, _≢_}
 use mathlib.Core.Option.{Option, none, some}
-use mathlib.Core.Path.{_≡_, refl, sym, ap, _∙_}
+use mathlib.Core.Path.{_≡_, refl, _∙_}
 use Prim.Native.Nat.{ℕ}
 use borrow.Author.Tests.{eq-eqb, ne-eqb}
 use lib.Dec.{T}
@@ -16,13 +16,12 @@ use Rattle.model.specs.Image.{Tables, widthIn, lineRow, parentIn, itemIn, table
 use Rattle.model.specs.Image.{itselfKind, groupKind, ownerKind, everyoneKind}
 use Rattle.model.specs.Permission.{lineIn, lineSet, groupLine, ruleBy, groupRule, ownRule, ownerRule, decidingRule}
 use Rattle.model.specs.Permission.{ruleNumber, ruleGroup, ruleSet, everyoneSet, ruleOn, ruleSetOn, everyoneOn, partOn}
-use Rattle.model.specs.Permission.{permissionSet, objectUnder, permissionUnder, explanationUnder, explanation, putTogether}
+use Rattle.model.specs.Permission.{objectUnder, ownUnder, ownSet, explanationUnder, explanation, putTogether}
 use Rattle.model.specs.Reasons.{NoOwnerLine, NoDirectLine, Decides, Adds}
 use Rattle.model.specs.Reasons.Decides.{by-custodian, by-owner-line, by-own-line, by-group-line, by-nothing}
 use Rattle.model.specs.Reasons.Adds.{not-to-custodian, by-everyones-line, no-everyones-line}
-use Rattle.model.specs.Calls.{askResult}
 use Rattle.model.specs.Calls.Ask.{permissionSetOf}
-use Rattle.model.specs.Questions.{firstNo, imageQuestions, askQuestions, explainQuestions, answer, ask, explain}
+use Rattle.model.specs.Questions.{firstNo, imageQuestions, askQuestions, explainQuestions, ask, explain}
 use Rattle.laws.specs.Tests.{eq-or-ne}
 use Rattle.laws.specs.Answers.{image-passed, call-checked}
 use Rattle.laws.specs.Standing.{stands, absent, only-row, no-row}
@@ -30,8 +29,8 @@ use Rattle.laws.specs.Nearest.{Met, met, meets, meets-none}
 
 -- The fields put together.
 
-pub put-together : (t : Tables) (s r i : ℕ) → putTogether (explanation t s r i) ≡ permissionSet t s r i
-unfolding explanationUnder permissionUnder objectUnder partOn
+pub put-together : (t : Tables) (s r i : ℕ) → putTogether (explanation t s r i) ≡ ownSet t s r i
+unfolding explanationUnder ownUnder objectUnder partOn
 put-together t s r i = refl
 
 -- The deciding rule of s on an item whose row is x, and what the line for everyone adds, in tables whose lines hold their rules.
@@ -144,19 +143,15 @@ module _ (t : Tables) (hold : T (linesHold t)) (s : ℕ) (x : ItemRow) where
       go other none e = no-everyones-line other (absent t hold (x .list .0) everyoneKind 0 e)
       go other (some l) e = by-everyones-line other (stands t hold (x .list .0) everyoneKind 0 l e)
 
--- The call, for any bytes and any numbers. Its refusal is that of the permission set call, whose result is the fields put
--- together. If it is not refused, its fields say what decided.
+-- The call, for any bytes and any numbers. If it is not refused, its fields say what decided.
 module _ (img : List ℕ) (s r i : ℕ) where
   abbrev refusal : ℕ
   refusal = firstNo (imageQuestions img ++ explainQuestions (tables img) s i)
 
-  pub explained-set : ask img (permissionSetOf s r i) ≡ answer (explain img s r i .number) (putTogether (explain img s r i))
-  unfolding ask askQuestions askResult explain explainQuestions explanationUnder
-  explained-set =
-      elim (eq-or-ne refusal 0) [
-        | inl done ↦ rw done (ap (answer 0) (sym (put-together (tables img) s r i)))
-        | inr refused ↦ rw (ne-eqb refusal 0 refused)
-      ]
+  -- it is refused where the permission set call is, with the same number
+  pub explained-number : ask img (permissionSetOf s r i) .number ≡ explain img s r i .number
+  unfolding ask askQuestions explain explainQuestions explanationUnder
+  explained-number = elim (eq-or-ne refusal 0) [ inl done ↦ rw done | inr refused ↦ rw (ne-eqb refusal 0 refused) ]
 
   module _ (done : explain img s r i .number ≡ 0) where
     pub not-refused : refusal ≡ 0

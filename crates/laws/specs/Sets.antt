@@ -6,7 +6,7 @@ use native.Mathlib.Nat.{mod-eq-of-lt, mod-lt, pow-suc, pow-succ', mul-suc, div-o
 use native.Mathlib.Omega.{arith}
 use borrow.Author.Tests.{eq-eqb}
 use lib.Arith.{bin-ind}
-use lib.Bits.{and-step, and-shr, or-shr, and-mod, or-mod, and-mask}
+use lib.Bits.{and-step, and-self, and-comm, and-shr, or-shr, and-mod, or-mod, and-mask}
 use lib.Dec.{T, eqb, lit<}
 use lib.Pow.{pow-add, pow-pos}
 use Rattle.model.specs.WhoAndWhat.{everything, positionsOf, has, _∪_, _∩_, within}
@@ -44,6 +44,28 @@ and-twice = bin-ind (λ (a : ℕ). (b : ℕ) → (a ∩ b) ∩ b ≡ a ∩ b) (�
     step a ih b =
         let halves : (a ∩ b) / 2 ≡ a / 2 ∩ b / 2 = and-shr a b 1 in
         omega (arith, and-step a b, rw halves at (and-step (a ∩ b) b), ih (b / 2))
+
+-- Intersections may be grouped in any way.
+pub and-assoc : (a b c : ℕ) → (a ∩ b) ∩ c ≡ a ∩ (b ∩ c)
+and-assoc = bin-ind (λ (a : ℕ). (b c : ℕ) → (a ∩ b) ∩ c ≡ a ∩ (b ∩ c)) (λ b c. refl) step
+  where
+    step : (a : ℕ) → ((b c : ℕ) → (a / 2 ∩ b) ∩ c ≡ a / 2 ∩ (b ∩ c)) → (b c : ℕ) → (a ∩ b) ∩ c ≡ a ∩ (b ∩ c)
+    step a ih b c =
+        let left : (a ∩ b) / 2 ≡ a / 2 ∩ b / 2 = and-shr a b 1 in
+        let right : (b ∩ c) / 2 ≡ b / 2 ∩ c / 2 = and-shr b c 1 in
+        omega (
+          arith,
+          and-step a b,
+          and-step b c,
+          rw left at (and-step (a ∩ b) c),
+          rw right at (and-step a (b ∩ c)),
+          ih (b / 2) (c / 2),
+        )
+
+-- To cut both of two sets by c is to cut what they share.
+pub and-shared : (c a b : ℕ) → c ∩ (a ∩ b) ≡ (c ∩ a) ∩ (c ∩ b)
+and-shared c a b =
+    rw (and-assoc c a (c ∩ b), ← and-assoc a c b, and-comm a c, and-assoc c a b, ← and-assoc c c (a ∩ b), and-self c)
 
 pub both-within : (a b : ℕ) → T (within (a ∩ b) b)
 both-within a b = true-T (within (a ∩ b) b) (eq-eqb ((a ∩ b) ∩ b) (a ∩ b) (and-twice a b))

@@ -34,7 +34,7 @@ pub data Change : Type 0 where
   removeGrant : (caller receiver role : ℕ) → Change
   setLine : (caller role list kind subject privileges : ℕ) → Change
   removeLine : (caller role list kind subject : ℕ) → Change
-  createItem : (caller role list flags : ℕ) → Change
+  createItem : (caller role list flags folder : ℕ) → Change
   bind : (caller item list : ℕ) → Change
   handOver : (caller item newOwner : ℕ) → Change
 
@@ -45,7 +45,7 @@ callerOf (setGrant c s r d v) = c
 callerOf (removeGrant c s r) = c
 callerOf (setLine c r a k s v) = c
 callerOf (removeLine c r a k s) = c
-callerOf (createItem c r a f) = c
+callerOf (createItem c r a f p) = c
 callerOf (bind c i a) = c
 callerOf (handOver c i o) = c
 
@@ -56,7 +56,7 @@ numbersOf (setGrant c s r d v) = c ∷ s ∷ r ∷ d ∷ []
 numbersOf (removeGrant c s r) = c ∷ s ∷ r ∷ []
 numbersOf (setLine c r a k s v) = c ∷ r ∷ a ∷ k ∷ s ∷ []
 numbersOf (removeLine c r a k s) = c ∷ r ∷ a ∷ k ∷ s ∷ []
-numbersOf (createItem c r a f) = c ∷ r ∷ a ∷ f ∷ []
+numbersOf (createItem c r a f p) = c ∷ r ∷ a ∷ f ∷ p ∷ []
 numbersOf (bind c i a) = c ∷ i ∷ a ∷ []
 numbersOf (handOver c i o) = c ∷ i ∷ o ∷ []
 
@@ -67,7 +67,7 @@ setsOf (setGrant c s r d v) = v ∷ []
 setsOf (removeGrant c s r) = []
 setsOf (setLine c r a k s v) = v ∷ []
 setsOf (removeLine c r a k s) = []
-setsOf (createItem c r a f) = []
+setsOf (createItem c r a f p) = []
 setsOf (bind c i a) = []
 setsOf (handOver c i o) = []
 
@@ -138,7 +138,7 @@ after t (setGrant c s r d v) = withGrants t (put grantKey (grantRow s r c d v) (
 after t (removeGrant c s r) = withGrants t (cut grantKey (s ∷ r ∷ []) (t .grants))
 after t (setLine c r a k s v) = withLines t (put lineKey (lineRow a k s v) (t .lines))
 after t (removeLine c r a k s) = withLines t (cut lineKey (a ∷ k ∷ s ∷ []) (t .lines))
-after t (createItem c r a f) = withItems t (t .items ++ itemRow c a f ∷ [])
+after t (createItem c r a f p) = withItems t (t .items ++ itemRow c a f p ∷ [])
 after t (bind c i a) = withItems t (setItem (t .items) i (withList (itemIn (t .items) i) a))
 after t (handOver c i o) = withItems t (setItem (t .items) i (withOwner (itemIn (t .items) i) o))
 
@@ -149,6 +149,6 @@ changeResult t (setGrant c s r d v) = 0
 changeResult t (removeGrant c s r) = 0
 changeResult t (setLine c r a k s v) = 0
 changeResult t (removeLine c r a k s) = 0
-changeResult t (createItem c r a f) = suc (length (t .items))
+changeResult t (createItem c r a f p) = suc (length (t .items))
 changeResult t (bind c i a) = 0
 changeResult t (handOver c i o) = 0

@@ -84,16 +84,17 @@ abbrev pub lineRow : ℕ → ℕ → ℕ → ℕ → LineRow
 lineRow list kind subject privileges =
     record { list = record { 0 = list }; kind = kind; subject = record { 0 = subject }; privileges = privileges }
 
-abbrev pub itemRow : ℕ → ℕ → ℕ → ItemRow
-itemRow owner list flags = record { owner = record { 0 = owner }; list = record { 0 = list }; flags = flags }
+abbrev pub itemRow : ℕ → ℕ → ℕ → ℕ → ItemRow
+itemRow owner list flags folder =
+    record { owner = record { 0 = owner }; list = record { 0 = list }; flags = flags; folder = record { 0 = folder } }
 
--- an item's row with another list, and with another owner
+-- an item's row with another list, and with another owner; its folder never changes
 
 abbrev pub withList : ItemRow → ℕ → ItemRow
-withList i a = itemRow (i .owner .0) a (i .flags)
+withList i a = itemRow (i .owner .0) a (i .flags) (i .folder .0)
 
 abbrev pub withOwner : ItemRow → ℕ → ItemRow
-withOwner i o = itemRow o (i .list .0) (i .flags)
+withOwner i o = itemRow o (i .list .0) (i .flags) (i .folder .0)
 
 -- the rows whose fields are all 0
 
@@ -107,7 +108,7 @@ abbrev pub noLine : LineRow
 noLine = lineRow 0 0 0 0
 
 abbrev pub noItem : ItemRow
-noItem = itemRow 0 0 0
+noItem = itemRow 0 0 0 0
 
 -- The formats of the four tables. w is how many bytes a privilege field has.
 abbrev pub subjectFormat : ℕ → Format SubjectRow
@@ -137,9 +138,9 @@ lineFormat w =
 abbrev pub itemFormat : Format ItemRow
 itemFormat =
     record {
-      widths = 4 ∷ 4 ∷ 4 ∷ [];
-      numbers = λ i. i .owner .0 ∷ i .list .0 ∷ i .flags ∷ [];
-      row = λ v. itemRow (getD v 0 0) (getD v 1 0) (getD v 2 0);
+      widths = 4 ∷ 4 ∷ 4 ∷ 4 ∷ [];
+      numbers = λ i. i .owner .0 ∷ i .list .0 ∷ i .flags ∷ i .folder .0 ∷ [];
+      row = λ v. itemRow (getD v 0 0) (getD v 1 0) (getD v 2 0) (getD v 3 0);
     }
 
 -- The capacities of the four tables, in rows. No call changes them.
@@ -290,7 +291,8 @@ abbrev pub itemUsed : List ItemRow → ℕ → Bool
 itemUsed rows zero = false
 itemUsed rows (suc n) = ltb n (length rows)
 
--- The flag bits of an item. Bit 0 says that it is an access list, bit 1 that it is locked. There are no others.
+-- The flag bits of an item. Bit 0 says that it is an access list, bit 1 that it is locked, bit 2 that the permission set of its
+-- folder applies to it too (document 02, P7). There are no others.
 
 abbrev pub listFlag : ℕ
 listFlag = 0
@@ -298,11 +300,15 @@ listFlag = 0
 abbrev pub lockedFlag : ℕ
 lockedFlag = 1
 
-abbrev pub flagCount : ℕ
-flagCount = 2
+abbrev pub folderFlag : ℕ
+folderFlag = 2
 
-abbrev pub flagsFit : ℕ → Bool
-flagsFit flags = ltb flags (2 ^ flagCount)
+abbrev pub flagCount : ℕ
+flagCount = 3
+
+-- the flags of an item that has this folder, where 0 is no folder and so none that could apply
+abbrev pub flagsFit : ℕ → ℕ → Bool
+flagsFit flags folder = ltb flags (2 ^ flagCount) && not (has folderFlag flags && eqb folder 0)
 
 abbrev pub isList : List ItemRow → ℕ → Bool
 isList rows a = itemUsed rows a && has listFlag (itemIn rows a .flags)
@@ -313,6 +319,10 @@ isLocked rows i = has lockedFlag (itemIn rows i .flags)
 -- an access list, or 0 for none
 abbrev pub noneOrList : List ItemRow → ℕ → Bool
 noneOrList rows a = eqb a 0 || isList rows a
+
+-- an item in use, or 0 for none
+abbrev pub noneOrItem : List ItemRow → ℕ → Bool
+noneOrItem rows i = eqb i 0 || itemUsed rows i
 
 -- The rules of the rows.
 
@@ -356,8 +366,15 @@ abbrev pub lineRules : List SubjectRow → List ItemRow → LineRow → Bool
 lineRules subjects items l =
     allOf (isList items (l .list .0) ∷ kindFits (l .kind) (l .subject .0) ∷ subjectUsed subjects (l .subject .0) ∷ [])
 
+-- n is the item's number; its folder is none, which is 0, or has a lower number
 abbrev pub itemRules : List SubjectRow → List ItemRow → ℕ → ItemRow → Bool
-itemRules subjects items n i = allOf (subjectUsed subjects (i .owner .0) ∷ noneOrList items (i .list .0) ∷ flagsFit (i .flags) ∷ [])
+itemRules subjects items n i =
+    allOf
+    (subjectUsed subjects (i .owner .0)
+    ∷ noneOrList items (i .list .0)
+    ∷ flagsFit (i .flags) (i .folder .0)
+    ∷ ltb (i .folder .0) n
+    ∷ [])
 
 abbrev pub grantKey : GrantRow → List ℕ
 grantKey g = g .receiver .0 ∷ g .role .0 ∷ []

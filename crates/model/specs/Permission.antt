@@ -1,5 +1,6 @@
--- Document 01, "How a permission is found": the lines' part, the grant of a claimed role, and the sets that these make.
-use mathlib.Core.Bool.{cond}
+-- Document 01, "How a permission is found": the lines' part, the grant of a claimed role, and the sets that these make. An item's
+-- own set and its permission set are two things: the permission set is also cut by the folders that apply (document 02, P7).
+use mathlib.Core.Bool.{Bool, _&&_, not, cond}
 use mathlib.Core.List.{List, [], _∷_}
 use mathlib.Core.Option.{Option, none, some}
 use Prim.Native.Nat.{ℕ, zero, suc}
@@ -15,8 +16,8 @@ use Rattle.model.specs.declared.SoughtGrant.the-variants.{Grant, NoGrant
 use Rattle.model.specs.Lists.{orElse}
 use Rattle.model.specs.Sorted.{find}
 use Rattle.model.specs.Tree.{stepsUp, inTree, stepsNumber}
-use Rattle.model.specs.WhoAndWhat.{custodian, everything, _∪_, _∩_}
-use Rattle.model.specs.Image.{Tables, widthIn, itselfKind, groupKind, ownerKind, everyoneKind}
+use Rattle.model.specs.WhoAndWhat.{custodian, everything, has, _∪_, _∩_}
+use Rattle.model.specs.Image.{Tables, widthIn, itselfKind, groupKind, ownerKind, everyoneKind, folderFlag}
 use Rattle.model.specs.Image.{grantKey, lineKey, parentIn, privilegesIn, itemIn}
 
 -- The line of list a for a kind and a subject. List 0 is no list and has no lines.
@@ -138,7 +139,7 @@ lentOn t (some g) x = cond (inTree (parentIn (t .subjects)) (g .domain .0) (x .o
 abbrev pub lentPart : Tables → Option GrantRow → ℕ → ℕ
 lentPart t g i = lentOn t g (itemIn (t .items) i)
 
--- The sets of s: first under a grant that may be missing, then under the role that s claims.
+-- The sets of s: first under a grant that may be missing, then, further down, under the role that s claims.
 
 unfoldable pub operationUnder : Tables → ℕ → Option GrantRow → ℕ
 operationUnder t s g = privilegesIn (t .subjects) s ∪ lentOperations t g
@@ -146,18 +147,51 @@ operationUnder t s g = privilegesIn (t .subjects) s ∪ lentOperations t g
 unfoldable pub objectUnder : Tables → ℕ → Option GrantRow → ℕ → ℕ
 objectUnder t s g i = linesPart t s i ∪ lentPart t g i
 
+-- the item's own set: what is in both
+unfoldable pub ownUnder : Tables → ℕ → Option GrantRow → ℕ → ℕ
+ownUnder t s g i = operationUnder t s g ∩ objectUnder t s g i
+
+-- The folder that applies to an item, for which 0 means none: to an item whose row is x, and to item i.
+
+abbrev pub folderOn : ItemRow → ℕ
+folderOn x = cond (has folderFlag (x .flags)) (x .folder .0) 0
+
+abbrev pub appliedFolder : List ItemRow → ℕ → ℕ
+appliedFolder items i = folderOn (itemIn items i)
+
+-- the way goes on from item i to folder f: there is one, and its number is lower
+abbrev pub leadsUp : ℕ → ℕ → Bool
+leadsUp i f = not (eqb f 0) && ltb f i
+
+-- What the sets of item i, of the folder that applies to it, of the folder that applies to that one and so on share. `up` is the
+-- step from an item to its folder. The numbers fall, so there are at most i steps: the first argument is how many are still
+-- allowed.
+unfoldable pub sharedWithin : ℕ → (ℕ → ℕ) → (ℕ → ℕ) → ℕ → ℕ
+sharedWithin zero up set i = set i
+sharedWithin (suc n) up set i = cond (leadsUp i (up i)) (set i ∩ sharedWithin n up set (up i)) (set i)
+
+-- the same along the folders of some items
+unfoldable pub sharedUp : List ItemRow → (ℕ → ℕ) → ℕ → ℕ
+sharedUp items set i = sharedWithin i (appliedFolder items) set i
+
+-- the permission set: what the item's own set shares with the permission set of the folder that applies, if one does
 unfoldable pub permissionUnder : Tables → ℕ → Option GrantRow → ℕ → ℕ
-permissionUnder t s g i = operationUnder t s g ∩ objectUnder t s g i
+permissionUnder t s g i = sharedUp (t .items) (ownUnder t s g) i
+
+-- The sets under the role that s claims.
 
 abbrev pub operationSet : Tables → ℕ → ℕ → ℕ
 operationSet t s r = operationUnder t s (grantOf t s r)
 
+abbrev pub ownSet : Tables → ℕ → ℕ → ℕ → ℕ
+ownSet t s r i = ownUnder t s (grantOf t s r) i
+
 abbrev pub permissionSet : Tables → ℕ → ℕ → ℕ → ℕ
 permissionSet t s r i = permissionUnder t s (grantOf t s r) i
 
--- The explanation of the permission set (document 02, P1): the deciding rule, the sets that are put together, the operation set,
--- which cuts them, and the steps from the item's owner up to the grant's domain (P6). First on an item whose row is x and under
--- a grant that may be missing, then on item i, then under the role that s claims.
+-- The explanation of the item's own set (document 02, P1): the deciding rule, the sets that are put together, the operation set,
+-- which cuts them, the steps from the item's owner up to the grant's domain (P6), and the folder that applies (P7). First on an
+-- item whose row is x and under a grant that may be missing, then on item i, then under the role that s claims.
 
 abbrev pub explanationOn : Tables → ℕ → Option GrantRow → ItemRow → Explanation
 explanationOn t s g x =
@@ -170,6 +204,7 @@ explanationOn t s g x =
       «role_set» = lentOn t g x;
       operations = operationUnder t s g;
       steps = stepsNumber (domainSteps t g x);
+      folder = folderOn x;
     }
 
 unfoldable pub explanationUnder : Tables → ℕ → Option GrantRow → ℕ → Explanation

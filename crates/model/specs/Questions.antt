@@ -19,7 +19,7 @@ use Rattle.model.specs.Tree.{inTree}
 use Rattle.model.specs.WhoAndWhat.{custodian, defineCall, createCall, setLineCall, removeLineCall, neededPosition, positionsOf, has}
 use Rattle.model.specs.Image.{shortestImage, longestImage, Tables, layoutOf, tablesBy, tables, encode}
 use Rattle.model.specs.Image.{widthOf, widthIn, size, lineFormat, grantKey, lineKey, parentIn, subjectUsed}
-use Rattle.model.specs.Image.{itemIn, itemUsed, isList, isLocked, noneOrList, flagsFit, kindFits}
+use Rattle.model.specs.Image.{itemIn, itemUsed, isList, isLocked, noneOrList, noneOrItem, flagsFit, kindFits}
 use Rattle.model.specs.Image.{layoutRules, subjectsHold, itemsHold, linesHold, grantsHold, unusedRules}
 use Rattle.model.specs.Permission.{grantOf, operationSet, permissionSet, explanation}
 use Rattle.model.specs.Calls.{Ask, Change, holderCounts, rowsOf, rowsBefore, lowestEditor, askResult, after, changeResult}
@@ -137,10 +137,11 @@ questions t (removeLine c r a k s) =
     ∷ 15 asks has (neededPosition removeLineCall) (permissionSet t c r a)
     ∷ 17 asks lineThere t a k s
     ∷ []
-questions t (createItem c r a f) =
+questions t (createItem c r a f p) =
     10 asks subjectUsed (t .subjects) c
+    ∷ 12 asks noneOrItem (t .items) p
     ∷ 13 asks noneOrList (t .items) a
-    ∷ 14 asks flagsFit f
+    ∷ 14 asks flagsFit f p
     ∷ 15 asks has (neededPosition createCall) (operationSet t c r)
     ∷ 19 asks ltb (length (t .items)) (t .capacities .items)
     ∷ []
@@ -189,7 +190,17 @@ ask img q = answered (firstNo (imageQuestions img ++ askQuestions (tables img) q
 -- What explain answers: the explanation. A refused question has its refusal, and 0 in every other field.
 abbrev pub refusedExplanation : ℕ → Explanation
 refusedExplanation n =
-    record { number = n; rule = 0; group = 0; «rule_set» = 0; «everyone_set» = 0; «role_set» = 0; operations = 0; steps = 0 }
+    record {
+      number = n;
+      rule = 0;
+      group = 0;
+      «rule_set» = 0;
+      «everyone_set» = 0;
+      «role_set» = 0;
+      operations = 0;
+      steps = 0;
+      folder = 0;
+    }
 
 abbrev pub explained : ℕ → Explanation → Explanation
 explained n e = cond (eqb n 0) e (refusedExplanation n)

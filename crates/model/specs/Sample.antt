@@ -1,8 +1,8 @@
 -- Document 01, "The sample workshop": the tables, and the twelve sets that are proved. Then the explanation of each of them
 -- (document 02, P1), how many subjects hold each position (P2), owners without an owner line (P4), whom the editor search names
--- (P5), and how many steps lead up from one subject to another (P6).
+-- (P5), how many steps lead up from one subject to another (P6), and items in folders (P7).
 use mathlib.Core.Bool.{Bool, _&&_}
-use mathlib.Core.List.{List, [], _∷_}
+use mathlib.Core.List.{List, [], _∷_, _++_}
 use Prim.Native.Nat.{ℕ}
 use lib.Dec.{eqb}
 use lib.ListN.{replicate}
@@ -10,12 +10,13 @@ use Rattle.model.specs.declared.Answer.{Answer}
 use Rattle.model.specs.declared.Explanation.{Explanation}
 use Rattle.model.specs.Tree.{outside}
 use Rattle.model.specs.WhoAndWhat.{everything}
+use Rattle.model.specs.declared.ItemRow.{ItemRow}
 use Rattle.model.specs.Image.{Tables, encode, subjectRow, grantRow, lineRow, itemRow}
 use Rattle.model.specs.Image.{itselfKind, groupKind, ownerKind, everyoneKind}
-use Rattle.model.specs.Calls.{after}
-use Rattle.model.specs.Calls.Ask.{permissionSetOf, findEditor, stepsUpOf}
-use Rattle.model.specs.Calls.Change.{setGrant, setLine, removeLine, handOver}
-use Rattle.model.specs.Questions.{answer, ask, refusedExplanation, explain, Counting, countHolders}
+use Rattle.model.specs.Calls.{Change, after}
+use Rattle.model.specs.Calls.Ask.{checkImage, permissionSetOf, findEditor, stepsUpOf}
+use Rattle.model.specs.Calls.Change.{setGrant, setLine, removeLine, createItem, bind, handOver}
+use Rattle.model.specs.Questions.{answer, ask, act, refusedExplanation, explain, Counting, countHolders}
 
 -- Each table has one free row.
 unfoldable pub workshop : Tables
@@ -37,7 +38,7 @@ workshop =
           ∷ lineRow 1 ownerKind 0 7
           ∷ lineRow 1 everyoneKind 0 1
           ∷ [];
-      items = itemRow 1 1 1 ∷ itemRow 2 1 0 ∷ itemRow 4 1 0 ∷ itemRow 2 0 0 ∷ [];
+      items = itemRow 1 1 1 0 ∷ itemRow 2 1 0 0 ∷ itemRow 4 1 0 0 ∷ itemRow 2 0 0 0 ∷ [];
       capacities = record { subjects = 7; grants = 2; lines = 6; items = 5 };
     }
 
@@ -73,9 +74,10 @@ right img c =
     && eqb (ask img (permissionSetOf (c .asker) (c .role) (c .item)) .result) (c .set)
 
 -- The explanations of these cases, in the same order: the rule's number, the group, what the rule gives, what everyone's line and
--- the role add, the operation set, and the steps from the item's owner up to the grant's domain.
-abbrev because : ℕ → ℕ → ℕ → ℕ → ℕ → ℕ → ℕ → Explanation
-because rule group given everyone role operations steps =
+-- the role add, the operation set, and the steps from the item's owner up to the grant's domain. No folder applies. `becauseIn`
+-- is the same on an item to which a folder applies.
+abbrev becauseIn : ℕ → ℕ → ℕ → ℕ → ℕ → ℕ → ℕ → ℕ → Explanation
+becauseIn folder rule group given everyone role operations steps =
     record {
       number = 0;
       rule = rule;
@@ -85,7 +87,11 @@ because rule group given everyone role operations steps =
       «role_set» = role;
       operations = operations;
       steps = steps;
+      folder = folder;
     }
+
+abbrev because : ℕ → ℕ → ℕ → ℕ → ℕ → ℕ → ℕ → Explanation
+because = becauseIn 0
 
 abbrev pub reasons : List Explanation
 reasons =
@@ -250,3 +256,70 @@ lowerOwnerCases = case 4 7 2 11 ∷ []
 
 abbrev pub lowerOwnerReasons : List Explanation
 lowerOwnerReasons = because 3 0 8 1 3 11 1 ∷ []
+
+-- The workshop with items in folders: 5 and 6 are one above the other, and the set of 3 applies to 5. The folder of 7 does not
+-- apply to it, the one of 8 does. Only the custodian has a set on 4.
+abbrev hallOf : List ItemRow → Tables
+hallOf more =
+    record {
+      subjects = workshop .subjects;
+      grants = workshop .grants;
+      lines = workshop .lines;
+      items = workshop .items ++ more;
+      capacities = record { subjects = 7; grants = 2; lines = 6; items = 9 };
+    }
+
+abbrev pub hall : Tables
+hall = hallOf (itemRow 2 1 4 3 ∷ itemRow 2 1 4 5 ∷ itemRow 2 1 0 4 ∷ itemRow 2 1 4 7 ∷ [])
+
+-- The own set of 4 is 9 on 5 and on 6, but 1 on 3. Under role 7, which reaches the items of 2, it is 11 on these and 3 on 3.
+abbrev pub hallCases : List Case
+hallCases = case 4 0 5 1 ∷ case 4 0 6 1 ∷ case 4 7 6 3 ∷ case 2 0 7 3 ∷ case 2 0 8 3 ∷ case 0 0 6 4294967295 ∷ []
+
+abbrev pub hallReasons : List Explanation
+hallReasons =
+    becauseIn 3 3 0 8 1 0 9 outside
+    ∷ becauseIn 5 3 0 8 1 0 9 outside
+    ∷ becauseIn 5 3 0 8 1 3 11 0
+    ∷ because 2 0 7 1 0 91 outside
+    ∷ becauseIn 7 2 0 7 1 0 91 outside
+    ∷ becauseIn 5 1 0 4294967295 0 0 4294967295 outside
+    ∷ []
+
+-- Item 6 after two calls by the custodian: bound to its list anew, and handed over to 4. It stays in its folder.
+abbrev pub movedHall : Tables
+movedHall = after (after hall (bind 0 6 1)) (handOver 0 6 4)
+
+abbrev pub movedCases : List Case
+movedCases = case 2 0 6 3 ∷ []
+
+abbrev pub movedReasons : List Explanation
+movedReasons = becauseIn 5 4 1 3 1 0 91 outside ∷ []
+
+-- A fifth item that breaks a rule: its folder is the item itself, or comes after it; a folder applies, and there is none; flags
+-- that have a bit without a meaning. Then one that breaks none, in a folder that does not apply.
+abbrev pub fifthItems : List ItemRow
+fifthItems = itemRow 2 1 0 5 ∷ itemRow 2 1 4 6 ∷ itemRow 2 1 4 0 ∷ itemRow 2 1 8 0 ∷ itemRow 2 1 3 4 ∷ []
+
+abbrev pub checkedWith : ItemRow → ℕ
+checkedWith x = ask (encode (hallOf (x ∷ []))) checkImage .number
+
+abbrev pub fifthChecks : List ℕ
+fifthChecks = 4 ∷ 4 ∷ 4 ∷ 4 ∷ 0 ∷ []
+
+-- Create item by 1 in the hall, which has eight items: in folder 6; with a folder and a list that are not in use; with a list that
+-- is none and flags that do not fit; with a folder that applies and is none; with flags that are too high.
+abbrev pub creations : List Change
+creations =
+    createItem 1 0 1 4 6
+    ∷ createItem 1 0 9 0 9
+    ∷ createItem 1 0 2 4 0
+    ∷ createItem 1 0 1 4 0
+    ∷ createItem 1 0 1 8 6
+    ∷ []
+
+abbrev pub created : Change → Answer
+created c = act (encode hall) c .answer
+
+abbrev pub creationAnswers : List Answer
+creationAnswers = answer 0 9 ∷ answer 12 0 ∷ answer 13 0 ∷ answer 14 0 ∷ answer 14 0 ∷ []

@@ -1,8 +1,9 @@
 -- The twelve sets of the sample workshop, proved against the rules: the permission set call answers each of them on the
 -- workshop's image, which is accepted. One theorem covers the whole table. Another covers the explanations of these sets, a third
 -- three further explanations, two of them refused, a fourth the counts of holders on each item and four refused calls. Two are
--- about owners without an owner line, one about whom the editor search names. The last three are about steps: what the call
--- answers, and a set with its explanation. All are proved by computation.
+-- about owners without an owner line, one about whom the editor search names. Three are about steps: what the call answers, and a
+-- set with its explanation. The last six are about folders: sets and explanations, also after calls on an item in a folder, what
+-- the check answers on items that break a rule, and what create item answers. All are proved by computation.
 use mathlib.Core.List.{map}
 use mathlib.Core.Path.{_≡_, refl}
 use lib.Dec.{T}
@@ -12,6 +13,8 @@ use Rattle.model.specs.Computing.{computing}
 use Rattle.model.specs.Sample.{workshop, twelve, right, reasons, explainedCase, furtherCases, furtherReasons}
 use Rattle.model.specs.Sample.{countedCase, countCases, countOutcomes, withoutOwnerLine, ownerCases, ownerReasons}
 use Rattle.model.specs.Sample.{namedRight, editorSearches, climbedRight, stepsCases, lowerOwner, lowerOwnerCases, lowerOwnerReasons}
+use Rattle.model.specs.Sample.{hall, hallCases, hallReasons, movedHall, movedCases, movedReasons}
+use Rattle.model.specs.Sample.{fifthItems, checkedWith, fifthChecks, creations, created, creationAnswers}
 
 pub the-twelve : T (every (right (encode workshop)) twelve)
 unfolding workshop computing
@@ -52,3 +55,27 @@ the-lower-owner = tt
 pub the-lower-owners-reason : map (explainedCase (encode lowerOwner)) lowerOwnerCases ≡ lowerOwnerReasons
 unfolding workshop computing
 the-lower-owners-reason = refl
+
+pub the-hall : T (every (right (encode hall)) hallCases)
+unfolding workshop computing
+the-hall = tt
+
+pub the-halls-reasons : map (explainedCase (encode hall)) hallCases ≡ hallReasons
+unfolding workshop computing
+the-halls-reasons = refl
+
+pub the-moved-item : T (every (right (encode movedHall)) movedCases)
+unfolding workshop computing
+the-moved-item = tt
+
+pub the-moved-items-reason : map (explainedCase (encode movedHall)) movedCases ≡ movedReasons
+unfolding workshop computing
+the-moved-items-reason = refl
+
+pub the-fifth-items : map checkedWith fifthItems ≡ fifthChecks
+unfolding workshop computing
+the-fifth-items = refl
+
+pub the-creations : map created creations ≡ creationAnswers
+unfolding workshop computing
+the-creations = refl

@@ -3,8 +3,9 @@
 ghost use mathlib.Core.Path.{_≡_};
 ghost use Rattle.model.specs.Tree.{stepsNumber, foundSteps};
 ghost use Rattle.model.specs.WhoAndWhat.{maskOf, neededPosition, has, within, _∪_, _∩_};
-ghost use Rattle.model.specs.Image.{subjectRow, grantRow, lineRow, itemRow, withList, withOwner, listFlag, lockedFlag};
-ghost use Rattle.model.specs.Permission.{ruleNumber, ruleGroup, ruleSet};
+ghost use Rattle.model.specs.Image.{subjectRow, grantRow, lineRow, itemRow, withList, withOwner};
+ghost use Rattle.model.specs.Image.{listFlag, lockedFlag, folderFlag, flagsFit};
+ghost use Rattle.model.specs.Permission.{ruleNumber, ruleGroup, ruleSet, folderOn};
 ghost use Rattle.model.specs.Questions.{answer, refusedExplanation};
 
 pub mod refusal;
@@ -49,6 +50,7 @@ pub struct ItemRow {
     pub owner: Subject,
     pub list: Item,
     pub flags: u32,
+    pub folder: Item,
 }
 
 // The rule that decides what the lines of an item's list give a subject, with the line that it found.
@@ -170,8 +172,9 @@ impl SoughtSteps {
     }
 }
 
-// Why a permission set is what it is: 0, the rule that decided, the subject whose group line that was, the sets that are put
-// together, and the steps from the item's owner up to the grant's domain. Or the refusal, and 0 in every other field.
+// Why an item's own set is what it is: 0, the rule that decided, the subject whose group line that was, the sets that are put
+// together, the steps from the item's owner up to the grant's domain, and the folder that applies, or 0. Or the refusal, and 0 in
+// every other field.
 #[repr(C)]
 pub struct Explanation {
     pub number: u32,
@@ -182,6 +185,7 @@ pub struct Explanation {
     pub role_set: Privileges,
     pub operations: Privileges,
     pub steps: u32,
+    pub folder: u32,
 }
 
 impl Explanation {
@@ -197,6 +201,7 @@ impl Explanation {
             role_set: 0,
             operations: 0,
             steps: 0,
+            folder: 0,
         }
     }
 }
@@ -280,31 +285,38 @@ impl LineRow {
 }
 
 impl ItemRow {
-    pub const SIZE: usize = 12;
+    pub const SIZE: usize = 16;
     // The flag bits of an item.
     pub const IS_LIST: u32 = 1;
 
     pub const LOCKED: u32 = 2;
-    // Flags are below this number: from it on, they have a bit without a meaning.
-    pub const FLAGS: u32 = 4;
 
-    pub fn new(owner: Subject, list: Item, flags: u32) -> ItemRow
-        ensures { λ r. ⌜ r ≡ itemRow (owner .0) (list .0) flags ⌝ }
+    pub const FOLDER_APPLIES: u32 = 4;
+    // Flags are below this number: from it on, they have a bit without a meaning.
+    pub const FLAGS: u32 = 8;
+
+    pub fn new(owner: Subject, list: Item, flags: u32, folder: Item) -> ItemRow
+        ensures { λ r. ⌜ r ≡ itemRow (owner .0) (list .0) flags (folder .0) ⌝ }
     {
-        ItemRow { owner, list, flags }
+        ItemRow {
+            owner,
+            list,
+            flags,
+            folder,
+        }
     }
 
     // The item's row with another list, and with another owner.
     pub fn with_list(self, list: Item) -> ItemRow
         ensures { λ r. ⌜ r ≡ withList self (list .0) ⌝ }
     {
-        ItemRow::new(self.owner, list, self.flags)
+        ItemRow::new(self.owner, list, self.flags, self.folder)
     }
 
     pub fn with_owner(self, owner: Subject) -> ItemRow
         ensures { λ r. ⌜ r ≡ withOwner self (owner .0) ⌝ }
     {
-        ItemRow::new(owner, self.list, self.flags)
+        ItemRow::new(owner, self.list, self.flags, self.folder)
     }
 
     pub fn is_list(self) -> bool
@@ -318,6 +330,32 @@ impl ItemRow {
     {
         self.flags & ItemRow::LOCKED != 0
     }
+
+    // The folder that applies to the item, or 0.
+    pub fn applied_folder(self) -> Item
+        ensures { λ r. ⌜ r .0 ≡ folderOn self ⌝ }
+    {
+        if folder_applies(self.flags) {
+            return self.folder;
+        }
+        Item(0)
+    }
+
+    // Whether an item with this folder may have these flags. Without a folder none applies; that flag is the highest.
+    pub fn flags_fit(flags: u32, folder: Item) -> bool
+        ensures { λ r. ⌜ r ≡ flagsFit flags (folder .0) ⌝ }
+    {
+        if folder.0 == 0 {
+            return flags < ItemRow::FOLDER_APPLIES;
+        }
+        flags < ItemRow::FLAGS
+    }
+}
+
+fn folder_applies(flags: u32) -> bool
+    ensures { λ r. ⌜ r ≡ has folderFlag flags ⌝ }
+{
+    flags & ItemRow::FOLDER_APPLIES != 0
 }
 
 // For each position, the set with that position alone.

@@ -1,9 +1,5 @@
--- First the words of the group search's contracts. Then laws in the form in which the code decides. The other definitions are
--- those of `model`.
-pub mod Climbing
-pub mod Groups
-pub mod NearestGroups
-pub mod Searches
+-- Laws in the form in which the code decides. The definitions are those of `model`.
 pub mod Parts
 pub mod Grants
+pub mod Folders
 pub mod Sets

@@ -3,12 +3,12 @@
 ghost use mathlib.Core.Path.{_≡_};
 ghost use Rattle.model.specs.WhoAndWhat.{_∩_};
 ghost use Rattle.model.specs.Image.{privilegesIn};
-ghost use Rattle.model.specs.Permission.{foundGrant, grantOf, partOn, operationUnder, objectUnder, permissionUnder};
+ghost use Rattle.model.specs.Permission.{foundGrant, grantOf, partOn, operationUnder, permissionUnder};
 ghost use Rattle.model.specs.Permission.{operationSet, permissionSet};
 ghost use Rattle.model.specs.Lent.{tablesAt};
-use crate::lines::lines_part;
-use crate::parts::granted_part;
+use crate::folders::shared_objects;
 use crate::parts::lent_operations;
+use lines::lines_part;
 use model::Item;
 use model::ItemRow;
 use model::Layout;
@@ -18,7 +18,6 @@ use model::SoughtGrant;
 use model::Subject;
 use model::intersection;
 use model::union;
-use rows::read::item_at;
 use search::grants::FoundGrant;
 use search::grants::search_grant;
 use tables::subjects::privileges_of;
@@ -50,25 +49,7 @@ pub fn operations_under(
     union(own, lent)
 }
 
-// The item's row is read once, for the lines' part of the subject and for what the grant adds. Without a grant it is the lines'
-// part.
-pub fn objects_under(
-    image: &[u8],
-    layout: Layout,
-    subject: Subject,
-    grant: SoughtGrant,
-    item: Item,
-) -> Privileges
-    ensures { λ r. ⌜ r ≡ objectUnder (tablesAt layout (image .entry)) (subject .0) (foundGrant grant) (item .0) ⌝ }
-{
-    let row = item_at(image, layout, item);
-    let own = lines_part(image, layout, subject, row);
-    match grant {
-        SoughtGrant::Grant(held) => union(own, granted_part(image, layout, held, row)),
-        SoughtGrant::NoGrant => own,
-    }
-}
-
+// The operation set cuts once what the object sets of the item and of the folders that apply share.
 pub fn permissions_under(
     image: &[u8],
     layout: Layout,
@@ -79,13 +60,12 @@ pub fn permissions_under(
     ensures { λ r. ⌜ r ≡ permissionUnder (tablesAt layout (image .entry)) (subject .0) (foundGrant grant) (item .0) ⌝ }
 {
     let operations = operations_under(image, layout, subject, grant);
-    let objects = objects_under(image, layout, subject, grant, item);
-    intersection(operations, objects)
+    shared_objects(image, layout, subject, grant, item, operations)
 }
 
-// The permission set of a subject that claims no role, on an item whose row is handed in. Whoever asks for the sets of many
-// subjects on one item reads its row once.
-pub fn permissions_on(image: &[u8], layout: Layout, subject: Subject, item: ItemRow) -> Privileges
+// The own set of an item whose row is handed in, of a subject that claims no role. Whoever asks for the sets of many subjects on
+// one item reads its row once.
+pub fn own_set_on(image: &[u8], layout: Layout, subject: Subject, item: ItemRow) -> Privileges
     ensures { λ r. let t = tablesAt layout (image .entry) in
         ⌜ r ≡ privilegesIn (t .subjects) (subject .0) ∩ partOn t (subject .0) item ⌝ }
 {

@@ -1,12 +1,13 @@
-// Why a permission set is what it is: the rule that decided, the sets that are put together, and how far the item's owner is below
-// the grant's domain. Each comes from the function by which the permission set itself is found.
+// Why an item's own set is what it is: the rule that decided, the sets that are put together, how far the item's owner is below
+// the grant's domain, and the folder that applies, which is to be asked about next. Each comes from the function by which the
+// permission set itself is found.
 ghost use mathlib.Core.Path.{_≡_};
 ghost use Rattle.model.specs.Permission.{foundGrant, explanationUnder, explanation};
 ghost use Rattle.model.specs.Lent.{tablesAt};
 use crate::decision::grant_of;
 use crate::decision::operations_under;
-use crate::lines::applied_lines;
 use crate::parts::lent_part;
+use lines::applied_lines;
 use model::Explanation;
 use model::Item;
 use model::Layout;
@@ -33,6 +34,7 @@ pub fn explanation_under(
     let lent = lent_part(image, layout, grant, row);
     let steps = lent.steps;
     let operations = operations_under(image, layout, subject, grant);
+    let folder = row.applied_folder();
     Explanation {
         number: 0,
         rule: rule.number(),
@@ -42,6 +44,7 @@ pub fn explanation_under(
         role_set: lent.privileges,
         operations,
         steps: steps.number(),
+        folder: folder.0,
     }
 }
 

@@ -4,7 +4,7 @@ ghost use mathlib.Core.Path.{_≡_};
 ghost use Rattle.model.specs.Tree.{foundSteps};
 ghost use Rattle.model.specs.Permission.{foundGrant, lentOperations, domainSteps, lentOn};
 ghost use Rattle.model.specs.Lent.{tablesAt};
-use crate::lines::lines_part;
+use lines::lines_part;
 use model::GrantRow;
 use model::ItemRow;
 use model::Layout;

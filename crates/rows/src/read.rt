@@ -51,7 +51,7 @@ pub fn item_at(bytes: &[u8], layout: Layout, item: Item) -> ItemRow
 {
     let number = item.0;
     if number == 0 {
-        return ItemRow::new(Subject(0), Item(0), 0);
+        return ItemRow::new(Subject(0), Item(0), 0, Item(0));
     }
     let row = row_bytes(bytes, layout.items, item_size(layout), number - 1);
     item_in(row)
@@ -112,7 +112,12 @@ fn line_in(row: &[u8], layout: Layout) -> LineRow
 fn item_in(row: &[u8]) -> ItemRow
     ensures { λ r. ⌜ r ≡ rowOf itemFormat (now (row .entry)) ⌝ }
 {
-    ItemRow::new(Subject(field(row, 0)), Item(field(row, 4)), field(row, 8))
+    ItemRow::new(
+        Subject(field(row, 0)),
+        Item(field(row, 4)),
+        field(row, 8),
+        Item(field(row, 12)),
+    )
 }
 
 // The slice of a table's rows in use, as far as the bytes have them. A pass, a climb or a search takes it once. For each row

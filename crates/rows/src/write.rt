@@ -69,7 +69,9 @@ pub fn put_item(bytes: &mut [u8], layout: Layout, at: usize, row: ItemRow)
     }
     let at_list = at + 4;
     let at_flags = at_list + 4;
+    let at_folder = at_flags + 4;
     put_field(bytes, at, row.owner.0);
     put_field(bytes, at_list, row.list.0);
     put_field(bytes, at_flags, row.flags);
+    put_field(bytes, at_folder, row.folder.0);
 }

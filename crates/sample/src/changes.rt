@@ -39,7 +39,7 @@ pub fn print_changes() {
     print_remove_line(0, 1, 0, 5);
     print_set_grant(2, 4, 7, 5, 1);
     print_remove_grant(2, 4, 7);
-    print_create(2, 1, 0);
+    print_create(2, 1, 0, 0);
     print_hand_over(0, 4, 5);
 }
 
@@ -169,14 +169,26 @@ pub fn ask_remove_line(image: &mut [u8], caller: u32, list: u32, kind: u32, subj
     print_outcome(answer, image);
 }
 
-fn print_create(caller: u32, list: u32, flags: u32) {
+fn print_create(caller: u32, list: u32, flags: u32, folder: u32) {
     let mut image = workshop::image();
+    ask_create(&mut image, caller, list, flags, folder);
+    end_line();
+}
+
+pub fn ask_create(image: &mut [u8], caller: u32, list: u32, flags: u32, folder: u32) {
     print_number(b"create_item caller ", caller);
     print_number(b" role 0 list ", list);
     print_number(b" flags ", flags);
-    let answer = create_item(&mut image, Subject(caller), Role(0), Item(list), flags);
-    print_outcome(answer, &image);
-    end_line();
+    print_number(b" folder ", folder);
+    let answer = create_item(
+        image,
+        Subject(caller),
+        Role(0),
+        Item(list),
+        flags,
+        Item(folder),
+    );
+    print_outcome(answer, image);
 }
 
 // Where the item is bound, the caller's permission set on it is printed too.

@@ -3,6 +3,7 @@
 // number that `check` answers for the image afterwards.
 mod changes;
 mod editors;
+mod folders;
 mod owners;
 mod printing;
 mod questions;
@@ -18,5 +19,6 @@ fn main() {
     owners::print_owners();
     editors::print_editors();
     steps::print_steps();
+    folders::print_folders();
     strangers::print_strangers();
 }

@@ -95,6 +95,7 @@ fn print_explanation(image: &[u8], subject: u32, role: u32, item: u32) {
     print_number(b" role_set ", why.role_set);
     print_number(b" operations ", why.operations);
     print_number(b" steps ", why.steps);
+    print_number(b" folder ", why.folder);
     end_line();
 }
 

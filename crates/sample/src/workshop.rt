@@ -2,9 +2,11 @@
 // printed tests the whole way from bytes to sets.
 use fields::numbers::put_field;
 
-const LENGTH: usize = 316;
+const LENGTH: usize = 336;
 
-const FIELDS: [u32; 79] = [
+const WIDER: usize = 400;
+
+const FIELDS: [u32; 84] = [
     // used rows and offset of subjects, of grants, of lines and of items, and the total length
     6,
     36,
@@ -14,7 +16,7 @@ const FIELDS: [u32; 79] = [
     160,
     4,
     256,
-    316,
+    336,
     // subject 0: parent, privileges, creator
     0,
     4294967295,
@@ -85,23 +87,28 @@ const FIELDS: [u32; 79] = [
     0,
     0,
     0,
-    // item 1: owner, list, flags
+    // item 1: owner, list, flags, folder
     1,
     1,
     1,
+    0,
     // item 2
     2,
     1,
+    0,
     0,
     // item 3
     4,
     1,
     0,
+    0,
     // item 4
     2,
     0,
     0,
+    0,
     // a free row
+    0,
     0,
     0,
     0,
@@ -114,9 +121,17 @@ pub fn image() -> [u8; LENGTH] {
     image
 }
 
+// The same with free rows for five items instead of one. Items are the last table, so only the total length is another.
+pub fn wider_image() -> [u8; WIDER] {
+    let mut image = [0u8; WIDER];
+    write(&mut image);
+    put_field(&mut image, 32, 400);
+    image
+}
+
 fn write(image: &mut [u8]) {
     let mut n = 0;
-    while n < 79 {
+    while n < 84 {
         put_field(image, n * 4, FIELDS[n]);
         n += 1;
     }

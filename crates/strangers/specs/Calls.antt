@@ -168,9 +168,9 @@ module _ (t : Tables) (document : ℕ) where
         (All-cut grantKey (Given t document) (s ∷ r ∷ []) (u .grants) (same .grants-given))
     untouched-after (setLine c r a k s v) outsider q = line-put c r a outsider (search q) k s v
     untouched-after (removeLine c r a k s) outsider q = line-cut c r a outsider (search q) k s
-    untouched-after (createItem c r a f) outsider q =
-        items-replaced (u .items ++ itemRow c a f ∷ []) (rw length-append (omega arith))
-        (λ i w. item-same (u .items) (itemRow c a f) i (item-still t document u same i (watched-used t document well there w)))
+    untouched-after (createItem c r a f p) outsider q =
+        items-replaced (u .items ++ itemRow c a f p ∷ []) (rw length-append (omega arith))
+        (λ i w. item-same (u .items) (itemRow c a f p) i (item-still t document u same i (watched-used t document well there w)))
     untouched-after (bind c i a) outsider q = item-replaced i (withList (itemIn (u .items) i) a) (not-watched c i outsider (search q))
     untouched-after (handOver c i o) outsider q =
         item-replaced i (withOwner (itemIn (u .items) i) o) (λ w. not-custodian c outsider (eqb→eq c custodian (search q)))
@@ -219,6 +219,6 @@ module _ (t : Tables) (document : ℕ) where
         cut-kept (s ∷ suc r ∷ []) (x ∷ y ∷ []) c held (search q) another (not-custodian c outsider)
     grant-kept s (suc r) (setLine c x a k y v) held another outsider q = held
     grant-kept s (suc r) (removeLine c x a k y) held another outsider q = held
-    grant-kept s (suc r) (createItem c x a f) held another outsider q = held
+    grant-kept s (suc r) (createItem c x a f p) held another outsider q = held
     grant-kept s (suc r) (bind c i a) held another outsider q = held
     grant-kept s (suc r) (handOver c i o) held another outsider q = held

@@ -16,8 +16,6 @@ use Rattle.laws.specs.Acts.{act-accepted, act-keeps}
 use Rattle.strangers.specs.Sequences.{Step, run, writing, Stranger, Claim, Demand3}
 use Rattle.strangers.specs.Sequences.Step.{changes, reads}
 use Rattle.strangers.specs.Sequences.Claim.{no-role, granted}
-use Rattle.strangers.specs.Sequences.Start.{the-document}
-use Rattle.strangers.specs.Watched.{Watched}
 use Rattle.strangers.specs.Untouched.{Untouched, untouched-at-stop, subject-still, item-still, permission-same}
 use Rattle.strangers.specs.Calls.{untouched-after, grant-kept}
 
@@ -112,4 +110,4 @@ demand-3 start accepted first second handed-first handed-second asker role docum
     set-same : permissionSet (tables later) asker role document ≡ permissionSet (tables stop) asker role document
     set-same =
         permission-same (tables stop) document (tables later) (kept .untouched) well (covered .document-present)
-        document (Watched.start the-document) asker (covered .asker-present) role (kept .grant-same)
+        asker (covered .asker-present) role (kept .grant-same)

@@ -1,4 +1,5 @@
--- Document 01, "The sequences of demand 3": sequences of calls, followed lists, insiders, strangers, and the claim.
+-- Document 01, "The sequences of demand 3": sequences of calls, followed lists, insiders, strangers, and the claim. With
+-- document 02, P7, each folder that applies is followed like the document.
 use mathlib.Core.List.{List, [], _∷_}
 use mathlib.Core.Logic.{_≢_}
 use mathlib.Core.Option.{some}
@@ -9,7 +10,7 @@ use Rattle.model.specs.declared.GrantRow.{GrantRow}
 use Rattle.model.specs.Lists.{All}
 use Rattle.model.specs.WhoAndWhat.{custodian, editList, has}
 use Rattle.model.specs.Image.{Tables, tables, itemIn, subjectUsed, itemUsed}
-use Rattle.model.specs.Permission.{linesPart, grantOf, permissionSet}
+use Rattle.model.specs.Permission.{linesPart, grantOf, appliedFolder, leadsUp, permissionSet}
 use Rattle.model.specs.Calls.{Ask, Change, callerOf, Handed}
 use Rattle.model.specs.Calls.Ask.{permissionSetOf}
 use Rattle.model.specs.Questions.{answer, Accepted, ask, act}
@@ -48,19 +49,22 @@ ownerOf t i = itemIn (t .items) i .owner .0
 
 -- Who is an insider of a document, and who is a stranger. t are the tables at the stop, where the first sequence ends.
 module _ (t : Tables) (document : ℕ) where
-  -- The items from which lists are followed. There is one: the document.
+  -- The items from which lists are followed: the document, the folder that applies to it, the folder that applies to that
+  -- one, and so on. The test for a folder is the one in the permission set: there is one, and its number is lower. This ends
+  -- at an item to which no folder applies.
   pub data Start : ℕ → Type 0 where
     the-document : Start document
+    its-folder : {d : ℕ} → Start d → T (leadsUp d (appliedFolder (t .items) d)) → Start (appliedFolder (t .items) d)
 
-  -- A list is followed if it controls the document or a list that is followed. This ends at an item without a list, and a
-  -- list that comes up again adds nothing.
+  -- A list is followed if it controls one of these items or a list that is followed. This ends at an item without a list,
+  -- and a list that comes up again adds nothing. The folders of followed lists are not followed.
   pub data Followed : ℕ → Type 0 where
     its-list : {d : ℕ} → Start d → listOf t d ≢ 0 → Followed (listOf t d)
     list-of : {a : ℕ} → Followed a → listOf t a ≢ 0 → Followed (listOf t a)
 
-  -- There are four ways to be an insider: to be the custodian, to own the document, to own a followed list, or to be
-  -- allowed by the lines to edit a followed list. The last means that the subject's lines' part on that list has the
-  -- privilege to edit a list. The subject's own privileges and its roles do not count for that.
+  -- There are four ways to be an insider: to be the custodian, to own the document or a folder that applies, to own a
+  -- followed list, or to be allowed by the lines to edit a followed list. The last means that the subject's lines' part on
+  -- that list has the privilege to edit a list. The subject's own privileges and its roles do not count for that.
   pub data Insider : ℕ → Type 0 where
     the-custodian : Insider custodian
     owns-document : {d : ℕ} → Start d → Insider (ownerOf t d)

@@ -16,18 +16,20 @@ use Rattle.model.specs.WhoAndWhat.{editList, has, _∩_}
 use Rattle.model.specs.Image.{Tables, itselfKind, ownerKind, everyoneKind, grantKey, grantRules}
 use Rattle.model.specs.Image.{subjectIn, parentIn, privilegesIn, subjectUsed, itemIn, itemUsed}
 use Rattle.model.specs.Permission.{lineIn, groupRule, ownRule, ownerRule, decidingRule, everyoneSet, partOn}
-use Rattle.model.specs.Permission.{linesPart, grantOf, lentOperations, lentPart}
-use Rattle.model.specs.Permission.{operationUnder, objectUnder, permissionUnder, permissionSet}
+use Rattle.model.specs.Permission.{linesPart, grantOf, lentOperations, lentPart, operationUnder, objectUnder, ownUnder}
+use Rattle.model.specs.Permission.{folderOn, appliedFolder, sharedUp, permissionUnder, permissionSet}
 use Rattle.laws.specs.Tests.{and-l, and-r, or-cases, All-map, All-both, All-self}
 use Rattle.laws.specs.Sorted.{IfSome, All-find}
 use Rattle.laws.specs.Sets.{has-or, has-and}
+use Rattle.laws.specs.Folders.{shared-same, permission-own}
 use Rattle.laws.specs.WellFormed.{WellFormed}
 use Rattle.laws.specs.Tree.{tree-same, group-same}
 use Rattle.laws.specs.Kept.{grant-rules}
-use Rattle.strangers.specs.Sequences.{listOf, ownerOf, Followed, Insider, Outsider}
+use Rattle.strangers.specs.Sequences.{listOf, ownerOf, Start, Followed, Insider, Outsider}
+use Rattle.strangers.specs.Sequences.Start.{the-document, its-folder}
 use Rattle.strangers.specs.Sequences.Insider.{may-edit}
 use Rattle.strangers.specs.Watched.{Watched, watched-list, owner-used}
-use Rattle.strangers.specs.Watched.Watched.{list}
+use Rattle.strangers.specs.Watched.Watched.{start, list}
 
 module _ (t : Tables) (document : ℕ) where
   -- the grantor of a grant was present at the stop, and is no insider if an outsider holds the grant
@@ -115,7 +117,7 @@ module _ (t : Tables) (document : ℕ) where
     given-of s (suc r) = All-find grantKey Given (s ∷ suc r ∷ []) (u .grants) (same .grants-given)
 
     -- An outsider may not edit a followed list, whatever role it claims. If its own lines' part allowed it, the outsider
-    -- would be an insider. If its grantor's lines' part did, the grantor would be one.
+    -- would be an insider. If its grantor's lines' part did, the grantor would be one. The list's folders can only take away.
     module _ (c a : ℕ) (outsider : Outsider t document c) (followed : Followed t document a) where
       allowed-inside : (s : ℕ) → T (subjectUsed (t .subjects) s) → T (has editList (linesPart u s a)) → Insider t document s
       allowed-inside s present allowed =
@@ -138,11 +140,12 @@ module _ (t : Tables) (document : ℕ) where
           go false h = h
 
       pub no-editor : (r : ℕ) → ¬ T (has editList (permissionSet u c r a))
-      unfolding permissionUnder objectUnder
+      unfolding ownUnder objectUnder
       no-editor r allowed =
+          let own : T (has editList (ownUnder u c (grantOf u c r) a)) = permission-own u c (grantOf u c r) editList a allowed in
           let object : T (has editList (objectUnder u c (grantOf u c r) a)) =
           and-r (has editList (operationUnder u c (grantOf u c r))) (has editList (objectUnder u c (grantOf u c r) a))
-          (rw (has-and editList (operationUnder u c (grantOf u c r)) (objectUnder u c (grantOf u c r) a)) at allowed) in
+          (rw (has-and editList (operationUnder u c (grantOf u c r)) (objectUnder u c (grantOf u c r) a)) at own) in
           go
           (or-cases (has editList (linesPart u c a)) (has editList (lentPart u (grantOf u c r) a))
           (rw (has-or editList (linesPart u c a) (lentPart u (grantOf u c r) a)) at object))
@@ -160,12 +163,12 @@ module _ (t : Tables) (document : ℕ) where
     lent-operations-same none p = refl
     lent-operations-same (some g) p = ap (λ (x : ℕ). g .privileges ∩ x) (same .privileges-same (g .grantor .0) (search ltb→lt))
 
-    -- The permission set on a watched item is the same for an asker that was present, under a grant whose grantor was. All
-    -- that it is read from is the same.
-    module _ (well : WellFormed t) (there : T (itemUsed (t .items) document)) (i : ℕ) (w : Watched t document i) where
-      lent-part-same : (o : Option GrantRow) → GrantorThere o → lentPart u o i ≡ lentPart t o i
-      lent-part-same none p = refl
-      lent-part-same (some g) p =
+    -- A watched item's own set is the same for an asker that was present, under a grant whose grantor was. All that it is read
+    -- from is the same.
+    module _ (well : WellFormed t) (there : T (itemUsed (t .items) document)) where
+      lent-part-same : (i : ℕ) → Watched t document i → (o : Option GrantRow) → GrantorThere o → lentPart u o i ≡ lentPart t o i
+      lent-part-same i w none p = refl
+      lent-part-same i w (some g) p =
           rw (
             part-same (g .grantor .0) i p w,
             same .watched-same i w,
@@ -175,15 +178,29 @@ module _ (t : Tables) (document : ℕ) where
           )
 
       module _ (asker : ℕ) (present : T (subjectUsed (t .subjects) asker)) where
-        under-same : (o : Option GrantRow) → GrantorThere o → permissionUnder u asker o i ≡ permissionUnder t asker o i
-        unfolding permissionUnder operationUnder objectUnder
-        under-same o p =
+        own-same : (o : Option GrantRow)
+            → GrantorThere o
+            → (i : ℕ) → Watched t document i → ownUnder u asker o i ≡ ownUnder t asker o i
+        unfolding ownUnder operationUnder objectUnder
+        own-same o p i w =
             rw (
               same .privileges-same asker (search ltb→lt),
               lent-operations-same o p,
               part-same asker i present w,
-              lent-part-same o p,
+              lent-part-same i w o p,
             )
+
+        -- So the permission set on the document is the same. It is what the own sets of the starts share, and which folder
+        -- applies to a start stands in its row, which is the same.
+        under-same : (o : Option GrantRow) → GrantorThere o → permissionUnder u asker o document ≡ permissionUnder t asker o document
+        unfolding permissionUnder sharedUp
+        under-same o p =
+            shared-same (appliedFolder (t .items)) (ownUnder t asker o) (appliedFolder (u .items)) (ownUnder u asker o)
+            (Start t document)
+            (λ i s leads. its-folder s leads)
+            (λ i s. ap folderOn (same .watched-same i (start s)))
+            (λ i s. own-same o p i (start s))
+            document document the-document
 
         grantor-present-of : (o : Option GrantRow) (r : ℕ) → IfSome (λ g. Given g × (grantKey g ≡ asker ∷ r ∷ [])) o → GrantorThere o
         grantor-present-of none r p = tt
@@ -191,7 +208,7 @@ module _ (t : Tables) (document : ℕ) where
 
         pub permission-same : (role : ℕ)
             → grantOf u asker role ≡ grantOf t asker role
-            → permissionSet u asker role i ≡ permissionSet t asker role i
+            → permissionSet u asker role document ≡ permissionSet t asker role document
         permission-same role grant =
             under-same (grantOf u asker role) (grantor-present-of (grantOf u asker role) role (given-of asker role))
-            ∙ ap (λ (o : Option GrantRow). permissionUnder t asker o i) grant
+            ∙ ap (λ (o : Option GrantRow). permissionUnder t asker o document) grant

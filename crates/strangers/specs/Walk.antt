@@ -1,8 +1,9 @@
--- The followed lists by computation. A walk goes from a start to its list and then from list to list. It ends where there
--- is no list, or one that was met before. The walks from all starts meet exactly the followed lists. This is so
--- because at each step every list met is a followed one, and the list of every start and of every list met is itself met
--- or is next. At the end nothing new is next, so all are met. There are enough steps: a list that has a list of its own is
--- an item in use, so meeting it leaves fewer items to meet.
+-- The followed lists by computation. The starts are the document and the folders that apply, one after the other. A walk
+-- goes from a start to its list and then from list to list. It ends where there is no list, or one that was met before.
+-- The walks from all starts meet exactly the followed lists. This is so because at each step every list met is a followed
+-- one, and the list of every start and of every list met is itself met or is next. At the end nothing new is next, so all
+-- are met. There are enough steps: a list that has a list of its own is an item in use, so meeting it leaves fewer items to
+-- meet.
 use mathlib.Core.Bool.{Bool, true, false, _||_, cond, true≢false}
 use mathlib.Core.List.{List, [], _∷_}
 use mathlib.Core.Logic.{inl, inr, _≢_}
@@ -14,9 +15,11 @@ use lib.Dec.{T, eqb, eqb→eq, eqb-refl, eqb·suc-zero}
 use lib.ListN.{length, List·getD-eq-default}
 use Rattle.model.specs.Lists.{All}
 use Rattle.model.specs.Image.{Tables, noItem}
+use Rattle.model.specs.Permission.{appliedFolder, leadsUp}
 use Rattle.laws.specs.Tests.{two, or-l, or-r, or-cases, eq-or-ne, le-or-lt, true-T, All-map}
+use Rattle.laws.specs.Folders.{leads-lower}
 use Rattle.strangers.specs.Sequences.{listOf, Start, Followed}
-use Rattle.strangers.specs.Sequences.Start.{the-document}
+use Rattle.strangers.specs.Sequences.Start.{the-document, its-folder}
 use Rattle.strangers.specs.Sequences.Followed.{its-list, list-of}
 
 -- `someOf`: some number of a list passes a test; `among`: a is one of its numbers
@@ -34,13 +37,22 @@ walk t zero met a = met
 walk t (suc n) met a = cond (eqb a 0 || among a met) met (walk t n (a ∷ met) (listOf t a))
 
 -- the lists met from each of some items, one walk after the other
-abbrev listsFrom : Tables → List ℕ → List ℕ
+abbrev pub listsFrom : Tables → List ℕ → List ℕ
 listsFrom t [] = []
 listsFrom t (d ∷ starts) = walk t (suc (length (t .items))) (listsFrom t starts) (listOf t d)
 
--- the starts, and the lists met from them
+-- The folder that applies to item d, the folder that applies to that one, and so on. `up` is the step from an item to its
+-- folder. The numbers fall, so there are at most d of them: the first argument is how many are still allowed.
+unfoldable pub foldersWithin : ℕ → (ℕ → ℕ) → ℕ → List ℕ
+foldersWithin zero up d = []
+foldersWithin (suc n) up d = cond (leadsUp d (up d)) (up d ∷ foldersWithin n up (up d)) []
+
+-- the folders that apply, the starts, and the lists met from these
+abbrev pub foldersOf : Tables → ℕ → List ℕ
+foldersOf t document = foldersWithin document (appliedFolder (t .items)) document
+
 abbrev pub startsOf : Tables → ℕ → List ℕ
-startsOf t document = document ∷ []
+startsOf t document = document ∷ foldersOf t document
 
 abbrev pub followedLists : Tables → ℕ → List ℕ
 followedLists t document = listsFrom t (startsOf t document)
@@ -164,20 +176,68 @@ module _ (t : Tables) (document : ℕ) where
       }
 
   -- `startsOf` has all starts and nothing else.
+
+  abbrev up : ℕ → ℕ
+  up = appliedFolder (t .items)
+
+  -- Nothing else: the folders that come after a start are starts.
+  pub folders-only : (n d : ℕ) → Start t document d → All (Start t document) (foldersWithin n up d)
+  unfolding foldersWithin
+  folders-only zero d s = tt
+  folders-only (suc n) d s = elim (two (leadsUp d (up d))) [
+    | inl e ↦ let next : Start t document (up d) = its-folder s (true-T (leadsUp d (up d)) e) in rw e (next, folders-only n (up d) next)
+    | inr e ↦ rw e tt
+  ]
+
   starts-only : All (Start t document) (startsOf t document)
-  starts-only = (the-document, tt)
+  starts-only = (the-document, folders-only document document the-document)
+
+  -- All: if d is item e or one of the folders that come after e, so is the folder that applies to d. The steps are not used up,
+  -- as their number is at least e and the numbers of the folders fall.
+  next-among : (n e : ℕ)
+      → e ≤ n
+      → (d : ℕ) → T (among d (e ∷ foldersWithin n up e)) → T (leadsUp d (up d)) → T (among (up d) (foldersWithin n up e))
+  unfolding foldersWithin
+  next-among zero e most d h leads = absurd (omega (arith, leads-lower d (up d) leads, at-last))
+    where
+      at-last : d ≡ e
+      at-last = elim (or-cases (eqb d e) false h) [ inl same ↦ eqb→eq d e same | inr none ↦ absurd none ]
+  next-among (suc n) e most d h leads = elim (two (leadsUp e (up e))) [
+    | inl goes-on ↦
+        let rest : List ℕ = foldersWithin n up (up e) in
+        rw goes-on (elim (or-cases (eqb d e) (among d (up e ∷ rest)) (rw goes-on at h)) [
+          | inl same ↦ rw (eqb→eq d e same) (or-l (eqb (up e) (up e)) (among (up e) rest) (eqb-refl (up e)))
+          | inr later ↦
+              or-r (eqb (up d) (up e)) (among (up d) rest)
+              (next-among n (up e) (omega (arith, leads-lower e (up e) (true-T (leadsUp e (up e)) goes-on))) d later leads)
+        ])
+    | inr ends ↦ elim (or-cases (eqb d e) false (rw ends at h)) [
+      | inl same ↦ absurd (rw (eqb→eq d e same, ends) at leads)
+      | inr none ↦ absurd none
+    ]
+  ]
 
   pub start-among : {d : ℕ} → Start t document d → T (among d (startsOf t document))
   start-among the-document = search (or-l, eqb-refl)
+  start-among (its-folder {d} s leads) =
+      or-r (eqb (up d) document) (among (up d) (foldersOf t document))
+      (next-among document document (omega arith) d (start-among s) leads)
 
-  walked : Met (startsOf t document) (followedLists t document) (followedLists t document)
-  walked = walks-met (startsOf t document) starts-only
+  pub folder-among : {d : ℕ} → Start t document d → T (leadsUp d (up d)) → T (among (up d) (foldersOf t document))
+  folder-among {d} s leads = next-among document document (omega arith) d (start-among s) leads
+
+  -- The lists met from some of the starts: the list of each of these starts is met, and so is the list of each list met.
+  module _ (starts : List ℕ) (each : All (Start t document) starts) where
+    pub list-of-start-met : (d : ℕ) → T (among d starts) → Listed (listsFrom t starts) d
+    list-of-start-met = among-All (Listed (listsFrom t starts)) starts (walks-met starts each .of-starts)
+
+    pub list-of-list-met : (a : ℕ) → T (among a (listsFrom t starts)) → Listed (listsFrom t starts) a
+    list-of-list-met = among-All (Listed (listsFrom t starts)) (listsFrom t starts) (walks-met starts each .of-met)
 
   pub walked-followed : (a : ℕ) → T (among a (followedLists t document)) → Followed t document a
-  walked-followed = among-All (Followed t document) (followedLists t document) (walked .followed)
+  walked-followed =
+      among-All (Followed t document) (followedLists t document) (walks-met (startsOf t document) starts-only .followed)
 
   pub followed-walked : (a : ℕ) → Followed t document a → T (among a (followedLists t document))
-  followed-walked _ (its-list {d} s some-list) =
-      among-All (Listed (followedLists t document)) (startsOf t document) (walked .of-starts) d (start-among s) some-list
-  followed-walked _ (list-of {a} f some-list) =
-      among-All (Listed (followedLists t document)) (followedLists t document) (walked .of-met) a (followed-walked a f) some-list
+  followed-walked _ (its-list {d} s some-list) = list-of-start-met (startsOf t document) starts-only d (start-among s) some-list
+  followed-walked _ (list-of {a} f some-list) = list-of-list-met (startsOf t document) starts-only a (followed-walked a f) some-list

@@ -1,5 +1,5 @@
--- The watched items: the document and its followed lists. Each is in use, its owner is an insider, and its own list is
--- none or a followed one.
+-- The watched items: the starts, which are the document and the folders that apply, and the followed lists. Each is in use,
+-- its owner is an insider, and its own list is none or a followed one.
 use mathlib.Core.Logic.{_⊎_, inl, inr, _≢_}
 use mathlib.Core.Path.{_≡_}
 use Prim.Native.Nat.{ℕ}
@@ -7,10 +7,11 @@ use lib.Dec.{T, eqb, eqb→eq}
 use Rattle.model.specs.WhoAndWhat.{has}
 use Rattle.model.specs.Image.{Tables, subjectUsed, itemIn, itemUsed, isList, noneOrList}
 use Rattle.laws.specs.Tests.{and-l, and-r, or-cases, eq-or-ne}
+use Rattle.laws.specs.Folders.{folder-used}
 use Rattle.laws.specs.WellFormed.{WellFormed}
 use Rattle.laws.specs.Kept.{GoodItem, item-good}
 use Rattle.strangers.specs.Sequences.{listOf, ownerOf, Start, Followed, Insider}
-use Rattle.strangers.specs.Sequences.Start.{the-document}
+use Rattle.strangers.specs.Sequences.Start.{the-document, its-folder}
 use Rattle.strangers.specs.Sequences.Followed.{its-list, list-of}
 use Rattle.strangers.specs.Sequences.Insider.{owns-document, owns-list}
 
@@ -45,6 +46,7 @@ module _ (t : Tables) (document : ℕ) where
 
     start-used : {d : ℕ} → Start t document d → T (itemUsed (t .items) d)
     start-used the-document = present
+    start-used (its-folder {d} s leads) = let used : T (itemUsed (t .items) d) = start-used s in search folder-used
 
     followed-used : {a : ℕ} → Followed t document a → T (itemUsed (t .items) a)
     followed-used (its-list {d} s some-list) = list-used d (start-used s) some-list

@@ -1,6 +1,6 @@
 // Items by number.
 ghost use mathlib.Core.Path.{_≡_};
-ghost use Rattle.model.specs.Image.{itemUsed, isList, noneOrList};
+ghost use Rattle.model.specs.Image.{itemUsed, isList, noneOrList, noneOrItem};
 ghost use Rattle.model.specs.Lent.{tablesAt};
 use model::Item;
 use model::Layout;
@@ -36,4 +36,14 @@ pub fn none_or_list(image: &[u8], layout: Layout, item: Item) -> bool
         return true;
     }
     is_list(image, layout, item)
+}
+
+// The item is in use, or 0 for none.
+pub fn none_or_item(image: &[u8], layout: Layout, item: Item) -> bool
+    ensures { λ r. ⌜ r ≡ noneOrItem (tablesAt layout (image .entry) .items) (item .0) ⌝ }
+{
+    if item.0 == 0 {
+        return true;
+    }
+    item_used(image, layout, item)
 }

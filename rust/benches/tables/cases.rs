@@ -4,7 +4,7 @@ use crate::call::{Call, Counts};
 use crate::images;
 use crate::sample::{sample, ITSELF};
 use crate::searching::{LineSearch, Way};
-use crate::tables::Tables;
+use crate::tables::{Tables, FOLDER_APPLIES};
 
 /// The names of two rows that are compared with each other.
 pub const FIRST_ROW: &str = "line search, the first row";
@@ -39,6 +39,7 @@ pub fn cases() -> Vec<Case> {
         lines_case(),
         owners_case(),
         editors_case(),
+        folders_case(),
         longest_report_case(),
     ]
 }
@@ -201,6 +202,42 @@ fn editors_case() -> Case {
     }
 }
 
+/// The time goes into the way up the folders. Each has few lines, which are soon found.
+fn folders_case() -> Case {
+    let tables = images::folders();
+    let last = tables.items.used() as u32;
+    let [technician, role, ..] = tables.grants.rows[0];
+    let editor = tables.subjects.used() as u32 - 1;
+    Case {
+        image_name: "folders",
+        image: tables.image(),
+        operations: vec![
+            call("check", Call::Check),
+            call("permission set, the first", set_of(technician, NO_ROLE, 1)),
+            call(
+                "permission set, half way down",
+                set_of(technician, NO_ROLE, last / 2),
+            ),
+            call(
+                "permission set, the last",
+                set_of(technician, NO_ROLE, last),
+            ),
+            call(
+                "permission set, the role counts",
+                set_of(technician, role, last),
+            ),
+            call(
+                "explain, the last",
+                explanation_of(technician, NO_ROLE, last),
+            ),
+            call("count holders, the last", holders_on(last)),
+            call("editor search, the last subject", editor_of(last)),
+            call("set line, on the last", new_line(editor, last)),
+            call("create item, in the last", creating(last)),
+        ],
+    }
+}
+
 /// Only for its report.
 fn longest_report_case() -> Case {
     Case {
@@ -280,6 +317,29 @@ fn inserting(tables: &Tables) -> Call {
     }
 }
 
+/// Sets a line on a list that has none yet.
+fn new_line(caller: u32, list: u32) -> Call {
+    Call::SetLine {
+        caller,
+        role: NO_ROLE,
+        list,
+        kind: ITSELF,
+        subject: caller,
+        privileges: 5,
+    }
+}
+
+/// Creates an item in a folder, which applies.
+fn creating(folder: u32) -> Call {
+    Call::CreateItem {
+        caller: CUSTODIAN,
+        role: NO_ROLE,
+        list: 1,
+        flags: FOLDER_APPLIES,
+        folder,
+    }
+}
+
 /// Removes the line in the middle of the table.
 fn removing(tables: &Tables) -> Call {
     let [list, kind, subject, _] = middle(&tables.lines.rows);
@@ -305,7 +365,7 @@ fn list_in_the_middle(tables: &Tables) -> u32 {
 fn item_under(tables: &Tables, list: u32) -> u32 {
     (1..)
         .zip(&tables.items.rows)
-        .find(|(_, [_, governing, flags])| *governing == list && *flags == 0)
+        .find(|(_, [_, governing, flags, _])| *governing == list && *flags == 0)
         .map(|(number, _)| number)
         .expect("every list governs an item")
 }
@@ -316,7 +376,7 @@ fn owner_and_item(tables: &Tables, is_named: bool) -> (u32, u32) {
     let owned = (1..).zip(&tables.items.rows);
     let mut owned = owned.filter(|(_, [owner, ..])| *owner != CUSTODIAN);
     owned
-        .find(|(_, [owner, list, _])| has_own_line(tables, *list, *owner) == is_named)
+        .find(|(_, [owner, list, ..])| has_own_line(tables, *list, *owner) == is_named)
         .map(|(number, [owner, ..])| (*owner, number))
         .expect("some owners are named on the list, others are not")
 }

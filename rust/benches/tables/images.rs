@@ -2,17 +2,16 @@
 
 use crate::random::Random;
 use crate::sample::{EVERYONE, GROUP, ITSELF, OWNER};
-use crate::tables::{Table, Tables};
+use crate::tables::{Table, Tables, FOLDER_APPLIES, IS_LIST};
 use dacm::Privileges;
 use std::collections::{BTreeMap, BTreeSet};
 
 const LONGEST: usize = 65_536;
-const ITEM_BYTES: usize = 12;
+const ITEM_BYTES: usize = 16;
 
 /// Free rows of a table, so that a row can be added.
 const SPARE: usize = 2;
 
-const IS_LIST: u32 = 1;
 const ALL: u32 = Privileges::ALL.0;
 const READ: u32 = Privileges::READ.0;
 const REPLACE: u32 = Privileges::REPLACE.0;
@@ -25,9 +24,8 @@ const CUSTODIAN: [u32; 3] = [0, ALL, 0];
 /// for an editor goes through all subjects.
 const DAILY_WORK: u32 = READ | REPLACE | DISCARD | ANNOTATE;
 
-/// Exactly 65,536 bytes: 1,000 subjects in a random tree, 600 grants, 1,000 lines on 40 lists, and
-/// items under these lists in all other bytes. Only the custodian and the last subject may edit the
-/// lists.
+/// 1,000 subjects in a random tree, 600 grants, 1,000 lines on 40 lists, and as many items under these
+/// lists as fit. Only the custodian and the last subject may edit the lists.
 pub fn mixed() -> Tables {
     let random = &mut Random::new(1);
     let subjects = with_spare(random_tree(random, 1_000));
@@ -47,9 +45,8 @@ pub fn mixed() -> Tables {
         lines: with_spare(lines.collect()),
         items: with_spare(Vec::new()),
     };
-    let count = (LONGEST - tables.image().len()) / ITEM_BYTES;
+    let count = items_that_fit(&tables);
     tables.items.rows = random_items(random, count, lists, 1_000);
-    assert_eq!(tables.image().len(), LONGEST, "bytes of the mixed image");
     tables
 }
 
@@ -57,7 +54,7 @@ pub fn mixed() -> Tables {
 /// search finds only near the top. The deepest subject owns the list; only it and the custodian may
 /// edit it.
 pub fn chain() -> Tables {
-    let deepest = 5_437;
+    let deepest = 5_435;
     let below = (0..deepest).map(|parent| [parent, 127, parent]);
     let lines = vec![
         [1, ITSELF, 2, DAILY_WORK],
@@ -69,8 +66,42 @@ pub fn chain() -> Tables {
         subjects: with_spare([CUSTODIAN].into_iter().chain(below).collect()),
         grants: with_spare(vec![[1, 7, 1, deepest, DAILY_WORK]]),
         lines: with_spare(lines),
-        items: with_spare(vec![[deepest, 1, IS_LIST], [1, 1, 0], [2, 1, 0]]),
+        items: with_spare(vec![[deepest, 1, IS_LIST, 0], [1, 1, 0, 0], [2, 1, 0, 0]]),
     }
+}
+
+/// A chain of items, each in the one before, which applies as its folder, as many as fit. The first are
+/// four lists, which govern themselves and the others by turns. The last is a list too. Subjects 1 and 2
+/// own the items by turns. All may read all of them, so that the way up goes to the first item. Only the
+/// custodian and subject 3, the last one, may edit the lists.
+pub fn folders() -> Tables {
+    let lists = 4;
+    let lines_of = |list| {
+        [
+            [list, ITSELF, 2, DAILY_WORK],
+            [list, ITSELF, 3, READ | EDIT_LIST],
+            [list, GROUP, 1, READ | REPLACE],
+            [list, OWNER, 0, READ | ANNOTATE],
+            [list, EVERYONE, 0, READ],
+        ]
+    };
+    let mut tables = Tables {
+        subjects: with_spare(vec![CUSTODIAN, [0, 127, 0], [1, 127, 1], [1, 127, 1]]),
+        grants: with_spare(vec![[2, 7, 1, 1, DAILY_WORK]]),
+        lines: with_spare((1..=lists).flat_map(lines_of).collect()),
+        items: with_spare(Vec::new()),
+    };
+    let last = items_that_fit(&tables) as u32;
+    let item = |number: u32| {
+        let owner = 1 + number % 2;
+        let list = 1 + (number - 1) % lists;
+        let is_list = number <= lists || number == last;
+        let flags = if is_list { IS_LIST } else { 0 };
+        let applies = if number > 1 { FOLDER_APPLIES } else { 0 };
+        [owner, list, flags | applies, number - 1]
+    };
+    tables.items.rows = (1..=last).map(item).collect();
+    tables
 }
 
 /// 3,000 lines on 10 lists, with 300 subjects and 100 items. Nobody but the custodian may edit the
@@ -118,17 +149,22 @@ pub fn with_editors() -> Tables {
     tables
 }
 
-/// As many pairs of a subject and an item as fit, which gives the longest report: 7,447,441 lines
+/// As many pairs of a subject and an item as fit, which gives the longest report: 5,586,263 lines
 /// after the heading. There are no lists and the tree is flat, so the time goes into the printing.
 pub fn longest_report() -> Tables {
     let mut subjects = vec![[0, 127, 0]; 2_729];
     subjects[0] = CUSTODIAN;
-    let items = (0..2_729).map(|owner| [owner, 0, 0]).collect();
+    let items = (0..2_047).map(|owner| [owner, 0, 0, 0]).collect();
     Tables {
         subjects: full(subjects),
         items: full(items),
         ..Tables::default()
     }
+}
+
+/// How many more items an image of these tables can have.
+fn items_that_fit(tables: &Tables) -> usize {
+    (LONGEST - tables.image().len()) / ITEM_BYTES
 }
 
 fn with_spare<const FIELDS: usize>(rows: Vec<[u32; FIELDS]>) -> Table<FIELDS> {
@@ -204,14 +240,14 @@ fn distinct(random: &mut Random, count: usize, bound: usize) -> impl Iterator<It
     numbers.into_iter()
 }
 
-/// The first items are the lists. Each of the others is governed by one of these.
-fn random_items(random: &mut Random, count: usize, lists: u32, subjects: usize) -> Vec<[u32; 3]> {
+/// The first items are the lists. Each of the others is governed by one of these. None is in a folder.
+fn random_items(random: &mut Random, count: usize, lists: u32, subjects: usize) -> Vec<[u32; 4]> {
     let mut item = |number| {
         let owner = random.below(subjects) as u32;
         if number <= lists {
-            [owner, list_of_list(number), IS_LIST]
+            [owner, list_of_list(number), IS_LIST, 0]
         } else {
-            [owner, 1 + random.below(lists as usize) as u32, 0]
+            [owner, 1 + random.below(lists as usize) as u32, 0, 0]
         }
     };
     (1..=count as u32).map(&mut item).collect()

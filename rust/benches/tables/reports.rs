@@ -33,7 +33,7 @@ pub fn print_report(side: Side) -> io::Result<()> {
 /// Ends the program if there is no report program to measure.
 pub fn stop_without_report_program() {
     if !report_program().is_file() {
-        eprintln!("The report program is missing: `make bench` in the folder above builds it.");
+        eprintln!("The report program is missing: `make bench` in the directory above builds it.");
         exit(1);
     }
 }

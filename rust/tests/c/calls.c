@@ -11,11 +11,11 @@
 #define ROW4(a, b, c, d) ROW3(a, b, c), FIELD(UINT32_C(d))
 #define ROW5(a, b, c, d, e) ROW4(a, b, c, d), FIELD(UINT32_C(e))
 
-enum { LENGTH = 316, LINES = 160, LINE_BYTES = 16 };
+enum { LENGTH = 336, LINES = 160, LINE_BYTES = 16 };
 
 static const uint8_t sample[LENGTH] = {
     /* used rows and offset of subjects, grants, lines and items, then the total */
-    ROW5(6, 36, 1, 120, 5), ROW4(160, 4, 256, 316),
+    ROW5(6, 36, 1, 120, 5), ROW4(160, 4, 256, 336),
     /* subjects: parent, privileges, creator */
     ROW3(0, 0xffffffff, 0), ROW3(0, 127, 0), ROW3(1, 91, 1), ROW3(0, 73, 0), ROW3(3, 9, 0), ROW3(2, 3, 1),
     ROW3(0, 0, 0),
@@ -23,8 +23,8 @@ static const uint8_t sample[LENGTH] = {
     ROW5(4, 7, 2, 2, 3), ROW5(0, 0, 0, 0, 0),
     /* lines: list, kind, subject, privileges */
     ROW4(1, 0, 4, 8), ROW4(1, 0, 5, 0), ROW4(1, 1, 1, 3), ROW4(1, 2, 0, 7), ROW4(1, 3, 0, 1), ROW4(0, 0, 0, 0),
-    /* items: owner, list, flags */
-    ROW3(1, 1, 1), ROW3(2, 1, 0), ROW3(4, 1, 0), ROW3(2, 0, 0), ROW3(0, 0, 0)
+    /* items: owner, list, flags, folder */
+    ROW4(1, 1, 1, 0), ROW4(2, 1, 0, 0), ROW4(4, 1, 0, 0), ROW4(2, 0, 0, 0), ROW4(0, 0, 0, 0)
 };
 
 static uint8_t image[LENGTH];
@@ -79,7 +79,7 @@ static int same(dacm_explanation one, dacm_explanation other)
 {
     return one.number == other.number && one.rule == other.rule && one.group == other.group
         && one.rule_set == other.rule_set && one.everyone_set == other.everyone_set && one.role_set == other.role_set
-        && one.operations == other.operations && one.steps == other.steps;
+        && one.operations == other.operations && one.steps == other.steps && one.folder == other.folder;
 }
 
 static void explained(dacm_subject subject, dacm_role role, dacm_item item, dacm_explanation explanation)
@@ -295,9 +295,9 @@ static void change_lines(void)
 static void change_items(void)
 {
     fresh();
-    refused(dacm_create_item(image, LENGTH, fourth, no_role, list, 0), DACM_NOT_PERMITTED);
-    refused(dacm_create_item(image, LENGTH, first, no_role, list, 4), DACM_OUT_OF_RANGE);
-    accepted(dacm_create_item(image, LENGTH, first, no_role, none, DACM_IS_LIST | DACM_LOCKED), nothing.number);
+    refused(dacm_create_item(image, LENGTH, fourth, no_role, list, 0, none), DACM_NOT_PERMITTED);
+    refused(dacm_create_item(image, LENGTH, first, no_role, list, 8, none), DACM_OUT_OF_RANGE);
+    accepted(dacm_create_item(image, LENGTH, first, no_role, none, DACM_IS_LIST | DACM_LOCKED, none), nothing.number);
     expect(dacm_list_count(image, LENGTH, nothing).number == DACM_DONE);
     expect(dacm_list_start(image, LENGTH, nothing) == 0);
     expect(dacm_bind(image, LENGTH, first, nothing, list).number == DACM_NOT_PERMITTED);
@@ -317,6 +317,52 @@ static void change_items(void)
     expect(dacm_bind(image, LENGTH, fifth, unlisted, list).number == DACM_DONE);
 }
 
+/* What the explanations along the folders share. */
+static uint32_t shared_on_way_up(dacm_subject subject, dacm_role role, dacm_item item)
+{
+    uint32_t shared = DACM_ALL;
+    do {
+        dacm_explanation next = dacm_explain(image, LENGTH, subject, role, item);
+        expect(next.number == DACM_DONE);
+        shared &= next.operations & (next.rule_set | next.everyone_set | next.role_set);
+        item.number = next.folder;
+    } while (item.number != 0);
+    return shared;
+}
+
+/* The fourth subject may annotate the document by its own line, and by its role read and replace it. */
+static void apply_folder(void)
+{
+    dacm_item created = nothing;
+
+    fresh();
+    refused(dacm_create_item(image, LENGTH, first, no_role, document, DACM_FOLDER_APPLIES, nothing), DACM_UNKNOWN_ITEM);
+    refused(dacm_create_item(image, LENGTH, first, no_role, document, DACM_FOLDER_APPLIES, none), DACM_NOT_A_LIST);
+    refused(dacm_create_item(image, LENGTH, first, no_role, list, DACM_FOLDER_APPLIES, none), DACM_OUT_OF_RANGE);
+    refused(dacm_create_item(image, LENGTH, first, no_role, list, 2 * DACM_FOLDER_APPLIES, document),
+            DACM_OUT_OF_RANGE);
+    refused(dacm_create_item(image, LENGTH, fourth, no_role, list, DACM_FOLDER_APPLIES, document), DACM_NOT_PERMITTED);
+
+    accepted(dacm_create_item(image, LENGTH, second, no_role, list, DACM_FOLDER_APPLIES, document), created.number);
+    accepted(dacm_permission_set(image, LENGTH, fourth, seventh, created), 11);
+    expect(dacm_explain(image, LENGTH, fourth, seventh, created).folder == document.number);
+    expect(dacm_explain(image, LENGTH, fourth, seventh, document).folder == 0);
+    expect(shared_on_way_up(fourth, seventh, created) == 11);
+    accepted(dacm_hand_over(image, LENGTH, custodian, document, fifth), 0);
+    accepted(dacm_permission_set(image, LENGTH, fourth, seventh, created), 11);
+    accepted(dacm_bind(image, LENGTH, fifth, document, none), 0);
+    accepted(dacm_permission_set(image, LENGTH, fourth, seventh, created), 0);
+    accepted(dacm_permission_set(image, LENGTH, custodian, no_role, created), DACM_ALL);
+    expect(shared_on_way_up(fourth, seventh, created) == 0);
+    accepted(count_holders(LENGTH, created, DACM_POSITIONS), 0);
+    expect(entries_are(1, 0, DACM_POSITIONS));
+
+    fresh();
+    accepted(dacm_create_item(image, LENGTH, second, no_role, list, DACM_LOCKED, unlisted), created.number);
+    expect(set_of(fourth, created) == 9);
+    expect(dacm_explain(image, LENGTH, fourth, no_role, created).folder == 0);
+}
+
 int main(void)
 {
     ask();
@@ -326,5 +372,6 @@ int main(void)
     change_subjects_and_grants();
     change_lines();
     change_items();
+    apply_folder();
     return failed;
 }

@@ -2,8 +2,8 @@
 
 use super::libraries::Size;
 use super::random::Random;
-use super::sample::{sample, GROUP};
-use super::tables::{set_field, Table, Tables};
+use super::sample::{sample, EVERYONE, GROUP};
+use super::tables::{set_field, Table, Tables, FOLDER_APPLIES, IS_LIST};
 use crate::twin;
 
 const LENGTHS: [usize; 8] = [0, 35, 36, 37, 48, 65_535, 65_536, 65_537];
@@ -29,6 +29,7 @@ pub fn boundary_images() -> Vec<Boundary> {
         named("no subject in use", no_subject()),
         named("every table full", every_table_full().image()),
         named("a chain of subjects", chain().image()),
+        named("a chain of folders", folders().image()),
     ];
     images.extend(LENGTHS.into_iter().flat_map(of_length));
     images.extend(headers_alone());
@@ -91,7 +92,34 @@ fn chain() -> Tables {
             spare: 0,
         },
         items: Table {
-            rows: vec![[5_449, 1, 1]],
+            rows: vec![[5_449, 1, 1, 0]],
+            spare: 0,
+        },
+    }
+}
+
+/// A chain of 4,088 items, each in the one before, which applies as its folder. All are lists, and the
+/// first is the list of all. Each in its turn is owned by one of the three subjects.
+fn folders() -> Tables {
+    let item = |number: u32| match number {
+        1 => [1, 1, IS_LIST, 0],
+        _ => [number % 3, 1, IS_LIST | FOLDER_APPLIES, number - 1],
+    };
+    Tables {
+        subjects: Table {
+            rows: vec![[0, u32::MAX, 0], [0, 127, 0], [1, 127, 0]],
+            spare: 0,
+        },
+        grants: Table {
+            rows: vec![[2, 7, 1, 1, 127]],
+            spare: 0,
+        },
+        lines: Table {
+            rows: vec![[1, GROUP, 1, 67], [1, EVERYONE, 0, 65]],
+            spare: 0,
+        },
+        items: Table {
+            rows: (1..=4_088).map(item).collect(),
             spare: 0,
         },
     }

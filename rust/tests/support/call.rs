@@ -24,7 +24,7 @@ pub enum Call {
     RemoveGrant { caller: u32, receiver: u32, role: u32 },
     SetLine { caller: u32, role: u32, list: u32, kind: u32, subject: u32, privileges: u32 },
     RemoveLine { caller: u32, role: u32, list: u32, kind: u32, subject: u32 },
-    CreateItem { caller: u32, role: u32, list: u32, flags: u32 },
+    CreateItem { caller: u32, role: u32, list: u32, flags: u32, folder: u32 },
     Bind { caller: u32, item: u32, list: u32 },
     HandOver { caller: u32, item: u32, owner: u32 },
 }
@@ -128,6 +128,7 @@ macro_rules! outcomes_of {
                     role_set: answer.role_set,
                     operations: answer.operations,
                     steps: answer.steps,
+                    folder: answer.folder,
                 };
                 explanation.into()
             }
@@ -172,8 +173,8 @@ macro_rules! made_on {
                 $module::set_line(image, caller, role, list, kind, subject, privileges).into(),
             Call::RemoveLine { caller, role, list, kind, subject } =>
                 $module::remove_line(image, caller, role, list, kind, subject).into(),
-            Call::CreateItem { caller, role, list, flags } =>
-                $module::create_item(image, caller, role, list, flags).into(),
+            Call::CreateItem { caller, role, list, flags, folder } =>
+                $module::create_item(image, caller, role, list, flags, folder).into(),
             Call::Bind { caller, item, list } =>
                 $module::bind(image, caller, item, list).into(),
             Call::HandOver { caller, item, owner } =>
@@ -284,9 +285,9 @@ impl Call {
                     Privileges(privileges))),
             Call::RemoveLine { caller, role, list, kind, subject } =>
                 done(dacm::remove_line(image, Subject(caller), Role(role), Item(list), Kind(kind), Subject(subject))),
-            Call::CreateItem { caller, role, list, flags } =>
-                with_result(dacm::create_item(image, Subject(caller), Role(role), Item(list), Flags(flags))
-                    .map(|created| created.0)),
+            Call::CreateItem { caller, role, list, flags, folder } =>
+                with_result(dacm::create_item(image, Subject(caller), Role(role), Item(list), Flags(flags),
+                    Item(folder)).map(|created| created.0)),
             Call::Bind { caller, item, list } =>
                 done(dacm::bind(image, Subject(caller), Item(item), Item(list))),
             Call::HandOver { caller, item, owner } =>

@@ -4,7 +4,7 @@
 use super::call::{Call, Counts};
 use super::random::Random;
 use super::sample::{EVERYONE, OWNER};
-use super::tables::Tables;
+use super::tables::{Tables, FOLDER_APPLIES};
 
 /// The roles that random grants use: few, so that calls often name a granted one.
 pub const ROLES: [u32; 4] = [1, 2, 7, u32::MAX];
@@ -162,11 +162,13 @@ impl Chooser<'_> {
 
     fn create_item(&mut self) -> Call {
         let (caller, role) = self.asker();
+        let folder = self.folder();
         Call::CreateItem {
             caller,
             role,
             list: self.list(),
-            flags: self.flags(),
+            flags: self.flags(folder),
+            folder,
         }
     }
 
@@ -206,6 +208,15 @@ impl Chooser<'_> {
         }
     }
 
+    /// Any item can be a folder. Half of the time it is none.
+    fn folder(&mut self) -> u32 {
+        if self.random.one_in(2) {
+            0
+        } else {
+            self.item()
+        }
+    }
+
     fn role(&mut self) -> u32 {
         match self.random.below(8) {
             0 | 1 => 0,
@@ -214,10 +225,16 @@ impl Chooser<'_> {
         }
     }
 
-    fn flags(&mut self) -> u32 {
+    /// Where there is no folder, mostly without the flag that needs one.
+    fn flags(&mut self, folder: u32) -> u32 {
+        let bound = if folder == 0 && !self.random.one_in(8) {
+            FOLDER_APPLIES
+        } else {
+            8
+        };
         match self.random.below(8) {
-            0 => self.random.pick(&[4, 5, 1 << 31, u32::MAX]),
-            _ => self.random.below(4) as u32,
+            0 => self.random.pick(&[8, 9, 12, 1 << 31, u32::MAX]),
+            _ => self.random.below(bound as usize) as u32,
         }
     }
 

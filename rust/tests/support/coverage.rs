@@ -21,7 +21,7 @@ const QUESTIONS: [&[u32]; Call::NAMES.len()] = [
     /* remove_grant   */ &[10, 11, 14, 17, 18],
     /* set_line       */ &[10, 11, 13, 14, 15, 19],
     /* remove_line    */ &[10, 11, 13, 14, 15, 17],
-    /* create_item    */ &[10, 13, 14, 15, 19],
+    /* create_item    */ &[10, 12, 13, 14, 15, 19],
     /* bind           */ &[10, 12, 13, 15],
     /* hand_over      */ &[10, 11, 12, 15],
 ];

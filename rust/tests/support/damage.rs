@@ -1,7 +1,7 @@
 //! Accepted images with random damage.
 
 use super::random::Random;
-use super::tables::{field_count, get_field, set_field, spans, Span};
+use super::tables::{field_count, get_field, set_field, spans, Span, FOLDER_APPLIES};
 
 /// Damages an accepted image one to three times. The image may still be accepted afterwards.
 pub fn damage(random: &mut Random, image: &mut Vec<u8>) {
@@ -9,7 +9,7 @@ pub fn damage(random: &mut Random, image: &mut Vec<u8>) {
     let values = telling_values(image);
     for _ in 0..1 + random.below(3) {
         let span = random.pick(&spans);
-        match random.below(10) {
+        match random.below(11) {
             0 => replace_header_field(random, image, &values),
             1 | 2 => replace_field(random, image, &values),
             3 => flip_bit(random, image),
@@ -17,6 +17,7 @@ pub fn damage(random: &mut Random, image: &mut Vec<u8>) {
             5 => swap_rows(random, image, &span),
             6 => repeat_row(random, image, &span),
             7 | 8 => write_into_unused_row(random, image, &span),
+            9 => change_folder(random, image, &spans[3]),
             _ => replace_row_field(random, image, &span, &values),
         }
     }
@@ -26,7 +27,7 @@ pub fn damage(random: &mut Random, image: &mut Vec<u8>) {
 /// limits of 32-bit arithmetic.
 pub fn telling_values(image: &[u8]) -> Vec<u32> {
     let length = image.len() as u32;
-    let mut values = vec![0, 1, 2, 3, 4, 5, 36, length];
+    let mut values: Vec<u32> = (0..=9).chain([36, length]).collect();
     values.extend([length - 1, length + 1, 65_536, 65_537]);
     values.extend([1 << 31, (1 << 31) - 1, u32::MAX, u32::MAX - 1]);
     for span in spans(image) {
@@ -70,6 +71,25 @@ fn replace_row_field(random: &mut Random, image: &mut [u8], span: &Span, values:
         random.pick(values),
     ];
     set_field(image, field, random.pick(&near));
+}
+
+/// Puts a used item into another folder, mostly into one near its own number, or changes whether its
+/// folder applies.
+fn change_folder(random: &mut Random, image: &mut [u8], items: &Span) {
+    if items.used == 0 || items.row(items.used) > image.len() {
+        return;
+    }
+    let row = random.below(items.used);
+    let (flags, folder) = (items.field(row, 2), items.field(row, 3));
+    if random.one_in(2) {
+        let number = row as u32 + 1;
+        let used = items.used as u32;
+        let near = [0, number - 1, number, number + 1, used, used + 1, u32::MAX];
+        set_field(image, folder, random.pick(&near));
+    } else {
+        let old = get_field(image, flags);
+        set_field(image, flags, old ^ FOLDER_APPLIES);
+    }
 }
 
 fn flip_bit(random: &mut Random, image: &mut [u8]) {

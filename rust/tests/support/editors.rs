@@ -58,6 +58,32 @@ fn others_under_role(tables: &Tables, image: &[u8], list: u32, end: u32) -> bool
     })
 }
 
+/// What the folders that apply do to a search.
+#[derive(Clone, Copy, Debug, PartialEq, Eq, PartialOrd, Ord)]
+pub enum ByFolders {
+    NoneApplies,
+    NobodyIsPassedOver,
+    /// Somebody is passed over who has the right by the list's own set.
+    SomebodyIsPassedOver,
+}
+
+/// What folders do to a search that has named this subject, or nobody.
+pub fn by_folders(tables: &Tables, image: &[u8], list: u32, named: Option<u32>) -> ByFolders {
+    if tables.folder_of(list).is_none() {
+        return ByFolders::NoneApplies;
+    }
+    let end = named.unwrap_or(tables.subjects.used() as u32);
+    let has_right = |subject| {
+        let why = dacm::explain(image, Subject(subject), Role::NONE, Item(list));
+        let own_set = why.expect("subject and list are in use").own_set();
+        own_set.contains(Privileges::EDIT_LIST)
+    };
+    match (1..end).any(has_right) {
+        true => ByFolders::SomebodyIsPassedOver,
+        false => ByFolders::NobodyIsPassedOver,
+    }
+}
+
 fn may_edit(image: &[u8], subject: u32, role: Role, list: u32) -> bool {
     let set = dacm::permission_set(image, Subject(subject), role, Item(list));
     set.expect("subject and list are in use")

@@ -8,12 +8,13 @@ use super::tables::Tables;
 use std::collections::BTreeSet;
 
 /// An explanation, whether the asker owns the item, what the list's line for everyone gives, 0 without
-/// one, and the domain of the grant.
+/// one, the domain of the grant, and the item's folder, whether or not it applies.
 struct Example<'a> {
     explanation: &'a Explanation,
     owns: bool,
     everyone: u32,
     domain: Option<u32>,
+    folder: u32,
 }
 
 /// What a sort is called, and whether an example is of it.
@@ -21,7 +22,7 @@ type Sort = (&'static str, fn(&Example) -> bool);
 
 /// What there must be an example of.
 #[rustfmt::skip]
-const SORTS: [Sort; 21] = [
+const SORTS: [Sort; 24] = [
     ("the custodian", |it| it.rule() == CUSTODIAN),
     ("the custodian, whom everyone's line does not concern", |it| it.rule() == CUSTODIAN && it.everyone != 0),
     ("the custodian under a role", |it| it.rule() == CUSTODIAN && it.explanation.role_set != 0),
@@ -43,6 +44,9 @@ const SORTS: [Sort; 21] = [
     ("an owner who is the domain", |it| it.explanation.steps == 0),
     ("an owner one step below the domain", |it| it.explanation.steps == 1),
     ("an owner more steps below the domain", |it| (2..OUTSIDE).contains(&it.explanation.steps)),
+    ("an item in no folder", |it| it.folder == 0),
+    ("a folder that does not apply", |it| it.folder != 0 && it.explanation.folder == 0),
+    ("a folder that applies", |it| it.explanation.folder != 0),
 ];
 
 impl Example<'_> {
@@ -71,6 +75,7 @@ impl Examples {
             owns: tables.owner_of(question.item) == question.subject,
             everyone: tables.line(list, EVERYONE, 0).unwrap_or(0),
             domain: tables.domain_of(question.subject, question.role),
+            folder: tables.items.rows[question.item as usize - 1][3],
         };
         let sorts = SORTS.iter().filter(|(_, holds)| holds(&example));
         self.0.extend(sorts.map(|(sort, _)| sort));

@@ -25,6 +25,7 @@ pub struct Explanation {
     pub role_set: u32,
     pub operations: u32,
     pub steps: u32,
+    pub folder: u32,
 }
 
 /// The number that is answered for steps where there are none.
@@ -43,6 +44,11 @@ impl Explanation {
             ..Explanation::default()
         }
     }
+
+    /// Put together by the paper's rules, the sets are the item's own set.
+    pub fn own_set(&self) -> u32 {
+        self.operations & (self.rule_set | self.everyone_set | self.role_set)
+    }
 }
 
 /// What the crate answers.
@@ -58,10 +64,17 @@ impl From<Result<dacm::Explanation, Refusal>> for Explanation {
                 role_set: explanation.role_set.0,
                 operations: explanation.operations.0,
                 steps: steps_number(explanation.steps),
+                folder: folder_number(explanation.folder),
             },
             Err(refusal) => Explanation::refused(refusal.number()),
         }
     }
+}
+
+/// The number for a folder that applies as the crate answers it.
+fn folder_number(folder: Option<Item>) -> u32 {
+    assert_ne!(folder, Some(Item::NONE), "folder 0 applies to nothing");
+    folder.map_or(0, |folder| folder.0)
 }
 
 fn group(rule: Rule) -> u32 {
@@ -96,6 +109,12 @@ impl Question {
         let Question { subject, role, item } = self;
         Call::Explain { subject, role, item }
     }
+
+    /// The call for the permission set, with the same arguments.
+    pub fn set(self) -> Call {
+        let Question { subject, role, item } = self;
+        Call::PermissionSet { subject, role, item }
+    }
 }
 
 impl Question {
@@ -110,6 +129,8 @@ impl Question {
             self.assert_lines_are_there(tables, explanation, &case);
             self.assert_first_decided(tables, explanation.rule, &case);
             self.assert_steps_lead_there(tables, explanation.steps, &case);
+            let applied = tables.folder_of(self.item).unwrap_or(0);
+            assert_eq!(explanation.folder, applied, "{case}");
         }
     }
 
@@ -129,11 +150,24 @@ impl Question {
         unsafe { dacm_explain(image.as_ptr(), image.len(), subject, role, item) }
     }
 
-    /// Put together by the paper's rules, the sets are the permission set.
+    /// The own set of this explanation and those of the folders that apply, each explained in its turn,
+    /// share the permission set. The crate puts an own set together in the same way.
     fn assert_put_together(self, image: &[u8], explanation: &Explanation, case: &str) {
-        let objects = explanation.rule_set | explanation.everyone_set | explanation.role_set;
+        let mut shared = explanation.own_set();
+        let mut folder = explanation.folder;
+        while folder != 0 {
+            let next = Question::new(self.subject, self.role, folder).ask_in_c(image);
+            assert_eq!(next.number, 0, "{case}: folder {folder} is not explained");
+            assert!(next.folder < folder, "{case}: then {next:?}");
+            shared &= next.own_set();
+            folder = next.folder;
+        }
         let set = twin::permission_set(image, self.subject, self.role, self.item).result;
-        assert_eq!(explanation.operations & objects, set, "{case}");
+        assert_eq!(shared, set, "{case}");
+        let (subject, role, item) = (Subject(self.subject), Role(self.role), Item(self.item));
+        let in_crate = dacm::explain(image, subject, role, item);
+        let own_set = in_crate.map(|explanation| explanation.own_set().0);
+        assert_eq!(own_set, Ok(explanation.own_set()), "{case}");
     }
 
     /// The line that is said to have decided is among the rows, with that set. Where no line

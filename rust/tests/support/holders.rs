@@ -2,7 +2,7 @@
 
 use super::call::{Counts, Outcome};
 use super::tables::get_field;
-use dacm::{Item, Privileges, Role, Subject};
+use dacm::{Item, Privileges, Refusal, Role, Subject};
 
 /// A refused call has left its entries as they were. Otherwise each counts at least the custodian
 /// and at most every subject. The crate, which lends entries of its own, answers the same.
@@ -26,10 +26,21 @@ pub fn assert_counts_hold(image: &[u8], item: u32, outcome: &Outcome, case: &str
 
 /// The counts made up from the permission sets of all subjects, each asked of the library.
 pub fn counts_of_sets(image: &[u8], item: u32) -> Vec<u32> {
-    let set_of = |subject| {
-        let set = dacm::permission_set(image, Subject(subject), Role::NONE, Item(item));
-        set.expect("subject and item are in use")
-    };
+    counts_of(image, |subject| {
+        dacm::permission_set(image, subject, Role::NONE, Item(item))
+    })
+}
+
+/// The same with the item's own sets, which no folder has cut.
+pub fn counts_of_own_sets(image: &[u8], item: u32) -> Vec<u32> {
+    counts_of(image, |subject| {
+        let why = dacm::explain(image, subject, Role::NONE, Item(item));
+        why.map(|explanation| explanation.own_set())
+    })
+}
+
+fn counts_of(image: &[u8], set: impl Fn(Subject) -> Result<Privileges, Refusal>) -> Vec<u32> {
+    let set_of = |subject| set(Subject(subject)).expect("subject and item are in use");
     let sets: Vec<Privileges> = (0..subject_count(image)).map(set_of).collect();
     let holders_of = |position: usize| {
         let has_it = |set: &&Privileges| set.contains(Privileges(1 << position));

@@ -3,7 +3,7 @@
 use super::choose::{privileges, ROLES};
 use super::random::Random;
 use super::sample::{EVERYONE, OWNER};
-use super::tables::{Table, Tables};
+use super::tables::{Table, Tables, FOLDER_APPLIES, IS_LIST};
 use std::collections::BTreeMap;
 
 /// How many used and free rows each table is to have, in the header's order. There may be fewer
@@ -55,14 +55,15 @@ impl Size {
     fn of_fields(random: &mut Random, fields: usize) -> Size {
         let mut grants = random.up_to(fields / 16);
         let lines = random.up_to(fields / 10);
-        // Subjects and items share the rest, three fields a row.
+        // Subjects and items share the rest, at least 28 fields. Subjects have three fields a row.
         let mut rest = fields - 5 * grants - 4 * lines;
+        let items = random.up_to((rest - 16) / 4);
+        rest -= 4 * items;
         while !rest.is_multiple_of(3) {
             grants += 1;
             rest -= 5;
         }
-        let subjects = 1 + random.below(rest / 3);
-        let items = rest / 3 - subjects;
+        let subjects = rest / 3;
         // At most half of a table is free, so that the custodian's row is used.
         let capacity = [subjects, grants, lines, items];
         let spare = capacity.map(|rows| random.pick(&[0, 1, rows]).min(rows / 2));
@@ -125,23 +126,48 @@ fn subject_rows(random: &mut Random, count: usize) -> Vec<[u32; 3]> {
     rows
 }
 
-fn item_rows(random: &mut Random, count: usize, subjects: usize) -> Vec<[u32; 3]> {
+/// How an item's folder is chosen. Two folders in three apply.
+#[derive(Clone, Copy)]
+enum Folders {
+    None,
+    OneBefore,
+    Any,
+}
+
+fn item_rows(random: &mut Random, count: usize, subjects: usize) -> Vec<[u32; 4]> {
+    let folders = random.pick(&[
+        Folders::None,
+        Folders::OneBefore,
+        Folders::Any,
+        Folders::Any,
+    ]);
     let flags: Vec<u32> = (0..count).map(|_| random.below(4) as u32).collect();
     let lists: Vec<u32> = (1..)
         .zip(&flags)
-        .filter(|(_, flags)| *flags & 1 != 0)
+        .filter(|(_, flags)| *flags & IS_LIST != 0)
         .map(|(number, _)| number)
         .collect();
     let row = |(number, flags)| {
         let owner = random.below(subjects) as u32;
-        let is_list = flags & 1 != 0;
+        let is_list = flags & IS_LIST != 0;
         // Any list is allowed, with a higher or a lower number, and a list may be its own.
         let list = match random.pick_any(&lists) {
             Some(_) if is_list && random.one_in(3) => number,
             Some(list) if !random.one_in(6) => list,
             _ => 0,
         };
-        [owner, list, flags]
+        let folder = match folders {
+            Folders::None => 0,
+            Folders::OneBefore => number - 1,
+            Folders::Any => random.below(number as usize) as u32,
+        };
+        let applies = folder != 0 && !random.one_in(3);
+        let flags = if applies {
+            flags | FOLDER_APPLIES
+        } else {
+            flags
+        };
+        [owner, list, flags, folder]
     };
     (1..).zip(flags).map(row).collect()
 }

@@ -5,6 +5,7 @@
 //! Everything random starts from a seed. The seeds are the same in every run, and a failure message
 //! prints its seed.
 
+pub mod answers;
 pub mod boundary;
 pub mod call;
 pub mod choose;

@@ -1,4 +1,4 @@
-//! The sample workshop of the paper, 316 bytes.
+//! The sample workshop of the paper, 336 bytes.
 
 use super::tables::{Table, Tables};
 
@@ -35,7 +35,7 @@ pub fn sample() -> Tables {
             spare: 1,
         },
         items: Table {
-            rows: vec![[1, 1, 1], [2, 1, 0], [4, 1, 0], [2, 0, 0]],
+            rows: vec![[1, 1, 1, 0], [2, 1, 0, 0], [4, 1, 0, 0], [2, 0, 0, 0]],
             spare: 1,
         },
     }

@@ -5,8 +5,13 @@ use std::iter::successors;
 pub const HEADER_BYTES: usize = 36;
 const FIELD_BYTES: usize = 4;
 
+/// Flags of an item.
+pub const IS_LIST: u32 = 1;
+pub const LOCKED: u32 = 2;
+pub const FOLDER_APPLIES: u32 = 4;
+
 /// Fields of a row of each table, in the header's order: subjects, grants, lines, items.
-pub const ROW_FIELDS: [usize; 4] = [3, 5, 4, 3];
+pub const ROW_FIELDS: [usize; 4] = [3, 5, 4, 4];
 
 /// One table: its used rows, and how many free rows follow them.
 #[derive(Clone, Debug, Default)]
@@ -45,8 +50,8 @@ pub struct Tables {
     pub grants: Table<5>,
     /// List, kind, subject, privileges.
     pub lines: Table<4>,
-    /// Owner, list, flags.
-    pub items: Table<3>,
+    /// Owner, list, flags, folder.
+    pub items: Table<4>,
 }
 
 impl Tables {
@@ -78,21 +83,37 @@ impl Tables {
     pub fn lists(&self) -> Vec<u32> {
         (1..)
             .zip(&self.items.rows)
-            .filter(|(_, [_, _, flags])| flags & 1 != 0)
+            .filter(|(_, [_, _, flags, _])| flags & IS_LIST != 0)
             .map(|(number, _)| number)
             .collect()
     }
 
     /// The owner of an item in use.
     pub fn owner_of(&self, item: u32) -> u32 {
-        let [owner, _, _] = self.items.rows[item as usize - 1];
+        let [owner, ..] = self.item(item);
         owner
     }
 
     /// The list of an item in use.
     pub fn list_of(&self, item: u32) -> u32 {
-        let [_, list, _] = self.items.rows[item as usize - 1];
+        let [_, list, ..] = self.item(item);
         list
+    }
+
+    /// The folder that applies to an item in use, if one does.
+    pub fn folder_of(&self, item: u32) -> Option<u32> {
+        let [_, _, flags, folder] = self.item(item);
+        (flags & FOLDER_APPLIES != 0).then_some(folder)
+    }
+
+    /// An item in use and the folders that apply, each to the one before it.
+    pub fn way_up(&self, item: u32) -> Vec<u32> {
+        successors(Some(item), |&item| self.folder_of(item)).collect()
+    }
+
+    /// The row of an item in use.
+    fn item(&self, item: u32) -> [u32; 4] {
+        self.items.rows[item as usize - 1]
     }
 
     /// The privileges of a line, if there is one.
@@ -143,7 +164,7 @@ impl Span {
     }
 
     /// The number of a field, counted from the start of the image.
-    fn field(&self, row: usize, field: usize) -> usize {
+    pub fn field(&self, row: usize, field: usize) -> usize {
         self.row(row) / FIELD_BYTES + field
     }
 }

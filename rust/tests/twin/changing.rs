@@ -4,7 +4,8 @@
 use super::image::Image;
 use super::permission::{operation_set, permission_set, CREATE_ITEMS, DEFINE_SUBJECTS, EDIT_LIST};
 use super::rows::{
-    line_in_range, Grant, Item, Line, Subject, ALL_FLAGS, CUSTODIAN, NO_LIST, NO_ROLE,
+    flags_in_range, line_in_range, Grant, Item, Line, Subject, CUSTODIAN, NO_FOLDER, NO_LIST,
+    NO_ROLE,
 };
 use super::table::{GRANTS, ITEMS, LINES, SUBJECTS};
 use super::{answer, ask, Answer, Refused};
@@ -166,12 +167,22 @@ fn ask_for_line(
     )
 }
 
-pub fn create_item(image: &mut [u8], caller: u32, role: u32, list: u32, flags: u32) -> Answer {
+/// The caller needs no right on the folder. The folder is in use, so the new item's
+/// number is higher.
+pub fn create_item(
+    image: &mut [u8],
+    caller: u32,
+    role: u32,
+    list: u32,
+    flags: u32,
+    folder: u32,
+) -> Answer {
     answer(|| {
         let view = Image::open(image)?;
         ask(10, view.has_subject(caller))?;
+        ask(12, folder == NO_FOLDER || view.item(folder).is_some())?;
         ask(13, list == NO_LIST || view.list(list).is_some())?;
-        ask(14, flags <= ALL_FLAGS)?;
+        ask(14, flags_in_range(flags, folder))?;
         let grant = view.grant(caller, role);
         ask(15, operation_set(&view, caller, grant) & CREATE_ITEMS != 0)?;
         ask(19, view.items.has_free_row())?;
@@ -180,6 +191,7 @@ pub fn create_item(image: &mut [u8], caller: u32, role: u32, list: u32, flags: u
             owner: caller,
             list,
             flags,
+            folder,
         };
         ITEMS.insert(image, row as usize, item.bytes());
         Ok(row + 1)

@@ -105,6 +105,11 @@ impl<'a> Image<'a> {
         self.items.used.get(row as usize).map(Item::read)
     }
 
+    /// The folder whose permission set applies to the item too, if there is one.
+    pub fn folder_of(&self, item: Item) -> Option<Item> {
+        self.item(item.applied_folder()?)
+    }
+
     /// The row of an item that is an access list. None if question 13 is answered
     /// no.
     pub fn list(&self, list: u32) -> Option<Item> {

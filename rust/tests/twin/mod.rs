@@ -53,6 +53,7 @@ pub struct Explanation {
     pub role_set: u32,
     pub operations: u32,
     pub steps: u32,
+    pub folder: u32,
 }
 
 /// The refusal: the number of the first question answered no.

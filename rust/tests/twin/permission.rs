@@ -1,7 +1,7 @@
 //! How a permission is found, on an accepted image.
 
 use super::image::Image;
-use super::rows::{Grant, Item, ALL, CUSTODIAN, EVERYONE, GROUP, ITSELF, OWNER};
+use super::rows::{Grant, Item, ALL, CUSTODIAN, EVERYONE, GROUP, ITSELF, NO_FOLDER, OWNER};
 use super::Explanation;
 
 /// The privileges that calls need: bits 4, 5 and 6 of a set.
@@ -112,9 +112,21 @@ fn object_set(image: &Image, subject: u32, grant: Option<Grant>, item: Item) -> 
     lines_part(image, subject, item) | role_part(image, grant, item)
 }
 
-pub fn permission_set(image: &Image, subject: u32, role: u32, item: Item) -> u32 {
+/// What is in the operation set and in the object set.
+fn own_set(image: &Image, subject: u32, role: u32, item: Item) -> u32 {
     let grant = image.grant(subject, role);
     operation_set(image, subject, grant) & object_set(image, subject, grant, item)
+}
+
+/// The item's own set. If its folder applies, what that shares with the folder's
+/// permission set, which is found in the same way. Each folder has a lower number than
+/// the item in it, so this ends.
+pub fn permission_set(image: &Image, subject: u32, role: u32, item: Item) -> u32 {
+    let own = own_set(image, subject, role, item);
+    match image.folder_of(item) {
+        Some(folder) => own & permission_set(image, subject, role, folder),
+        None => own,
+    }
 }
 
 /// The number that is answered for steps: if there are none, the highest.
@@ -122,8 +134,9 @@ pub fn steps_number(steps: Option<u32>) -> u32 {
     steps.unwrap_or(4_294_967_295)
 }
 
-/// What the permission set is made of, each as it is before it is put together. And
-/// how far the item's owner is below the domain of the grant, if there is one.
+/// What the item's own set is made of, each as it is before it is put together. Also
+/// how far the item's owner is below the domain of the grant, if there is one, and the
+/// folder that applies, or 0.
 pub fn explain(image: &Image, subject: u32, role: u32, item: Item) -> Explanation {
     let grant = image.grant(subject, role);
     let rule = deciding_rule(image, subject, item);
@@ -137,5 +150,6 @@ pub fn explain(image: &Image, subject: u32, role: u32, item: Item) -> Explanatio
         role_set: role_part(image, grant, item),
         operations: operation_set(image, subject, grant),
         steps: steps_number(steps),
+        folder: item.applied_folder().unwrap_or(NO_FOLDER),
     }
 }

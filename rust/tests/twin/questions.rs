@@ -2,7 +2,9 @@
 //! rules of the lines use the items' flags, the rules of the grants use the tree.
 
 use super::image::{Image, HEADER};
-use super::rows::{line_in_range, Grant, Item, Line, Subject, ALL, ALL_FLAGS, NO_LIST, NO_ROLE};
+use super::rows::{
+    flags_in_range, line_in_range, Grant, Item, Line, Subject, ALL, NO_LIST, NO_ROLE,
+};
 use super::{ask, Refused};
 
 const LONGEST: usize = 65_536;
@@ -39,11 +41,14 @@ fn subjects_hold(image: &Image) -> bool {
         })
 }
 
+/// Folder 0 is none, and lower than every number.
 fn items_hold(image: &Image) -> bool {
-    image.items.used.iter().map(Item::read).all(|item| {
+    let items = image.items.used.iter().map(Item::read);
+    (1..).zip(items).all(|(number, item)| {
         image.has_subject(item.owner)
             && (item.list == NO_LIST || image.list(item.list).is_some())
-            && item.flags <= ALL_FLAGS
+            && item.folder < number
+            && flags_in_range(item.flags, item.folder)
     })
 }
 

@@ -6,12 +6,13 @@ use std::array;
 pub const SUBJECT: usize = 12;
 pub const GRANT: usize = 20;
 pub const LINE: usize = 16;
-pub const ITEM: usize = 12;
+pub const ITEM: usize = 16;
 
 pub const CUSTODIAN: u32 = 0;
 pub const ALL: u32 = u32::MAX;
 pub const NO_ROLE: u32 = 0;
 pub const NO_LIST: u32 = 0;
+pub const NO_FOLDER: u32 = 0;
 
 /// How many positions a privilege set has.
 pub const POSITIONS: usize = 32;
@@ -25,7 +26,8 @@ pub const EVERYONE: u32 = 3;
 /// Flags of an item.
 pub const IS_LIST: u32 = 1;
 pub const LOCKED: u32 = 2;
-pub const ALL_FLAGS: u32 = IS_LIST | LOCKED;
+pub const FOLDER_APPLIES: u32 = 4;
+pub const ALL_FLAGS: u32 = IS_LIST | LOCKED | FOLDER_APPLIES;
 
 #[derive(Clone, Copy, PartialEq, Eq)]
 pub struct Subject {
@@ -56,6 +58,7 @@ pub struct Item {
     pub owner: u32,
     pub list: u32,
     pub flags: u32,
+    pub folder: u32,
 }
 
 impl Subject {
@@ -124,12 +127,17 @@ impl Line {
 
 impl Item {
     pub fn read(row: &[u8; ITEM]) -> Item {
-        let [owner, list, flags] = words(row);
-        Item { owner, list, flags }
+        let [owner, list, flags, folder] = words(row);
+        Item {
+            owner,
+            list,
+            flags,
+            folder,
+        }
     }
 
     pub fn bytes(self) -> [u8; ITEM] {
-        bytes([self.owner, self.list, self.flags])
+        bytes([self.owner, self.list, self.flags, self.folder])
     }
 
     pub fn is_list(self) -> bool {
@@ -139,6 +147,18 @@ impl Item {
     pub fn is_locked(self) -> bool {
         self.flags & LOCKED != 0
     }
+
+    /// The number of the folder that applies. None if the item has no folder, or has
+    /// one without the flag.
+    pub fn applied_folder(self) -> Option<u32> {
+        (self.flags & FOLDER_APPLIES != 0).then_some(self.folder)
+    }
+}
+
+/// Are there no flags but those of an item, and is there a folder where one is to
+/// apply? This is a rule of the item rows, and of the arguments of create item.
+pub fn flags_in_range(flags: u32, folder: u32) -> bool {
+    flags <= ALL_FLAGS && (flags & FOLDER_APPLIES == 0 || folder != NO_FOLDER)
 }
 
 /// Is this a kind of line, and is the subject 0 where the kind requires it? This

@@ -5,7 +5,7 @@ use super::opening::open;
 use super::permission::{operation_set, permission_set};
 use super::rows::{
     line_key, Grant, Item, Line, Subject, CREATE_ITEMS, CUSTODIAN, DEFINE_SUBJECTS, EDIT_LIST,
-    EVERYONE, GROUP, HIGHEST_FLAGS, NO_LIST, NO_ROLE,
+    EVERYONE, FOLDER_APPLIES, GROUP, HIGHEST_FLAGS, NO_FOLDER, NO_LIST, NO_ROLE,
 };
 use super::tables::{item_index, Tables};
 use super::writing::{GRANTS, ITEMS, LINES, SUBJECTS};
@@ -164,12 +164,23 @@ fn ask_about_line(
     Question::Right.ask(permissions & EDIT_LIST != 0)
 }
 
-pub fn create_item(image: &mut [u8], caller: u32, role: u32, list: u32, flags: u32) -> Answer {
+/// Nobody needs a right on the folder.
+pub fn create_item(
+    image: &mut [u8],
+    caller: u32,
+    role: u32,
+    list: u32,
+    flags: u32,
+    folder: u32,
+) -> Answer {
     Answer::to(|| {
         let tables = open(image)?;
         Question::Caller.ask(tables.has_subject(caller))?;
+        let in_no_folder = folder == NO_FOLDER;
+        Question::Item.ask(in_no_folder || tables.item(folder).is_some())?;
         Question::List.ask(is_list_or_none(&tables, list))?;
-        Question::Range.ask(flags <= HIGHEST_FLAGS)?;
+        let none_applies = flags & FOLDER_APPLIES != 0 && in_no_folder;
+        Question::Range.ask(flags <= HIGHEST_FLAGS && !none_applies)?;
         let grant = tables.grant(caller, role);
         let operations = operation_set(&tables, caller, grant);
         Question::Right.ask(operations & CREATE_ITEMS != 0)?;
@@ -179,6 +190,7 @@ pub fn create_item(image: &mut [u8], caller: u32, role: u32, list: u32, flags: u
             owner: caller,
             list,
             flags,
+            folder,
         };
         ITEMS.insert(image, index, item.row());
         Ok(index as u32 + 1)

@@ -1,6 +1,7 @@
 //! The search for an editor of a list. Only lines that give the right to edit are followed, so that
 //! nothing is worked out for subjects that no such line can reach.
 
+use super::holders::given_with_folders;
 use super::list::List;
 use super::rows::{Item, Line, CUSTODIAN, EDIT_LIST};
 use super::tables::Tables;
@@ -8,6 +9,9 @@ use super::tables::Tables;
 /// The lowest subject other than the custodian that may edit the list, if there is one. The list is an
 /// item here: the lines of its own list decide.
 pub fn lowest(tables: &Tables, item: Item) -> Option<u32> {
+    if tables.folder_of(item).is_some() {
+        return lowest_in_folder(tables, item);
+    }
     let search = Search {
         tables,
         owner: item.owner,
@@ -20,6 +24,15 @@ pub fn lowest(tables: &Tables, item: Item) -> Option<u32> {
     let direct = direct.into_iter().flatten().min();
     let end = direct.unwrap_or(tables.subject_count());
     search.by_group_line(end).or(direct)
+}
+
+/// All lines on the way up have to give the right, so they are taken for all subjects together.
+#[cold]
+fn lowest_in_folder(tables: &Tables, item: Item) -> Option<u32> {
+    let given = given_with_folders(tables, item);
+    let is_editor =
+        |subject: &u32| gives(tables.subject(*subject).privileges & given[*subject as usize]);
+    (1..tables.subject_count()).find(is_editor)
 }
 
 fn gives(privileges: u32) -> bool {

@@ -6,7 +6,8 @@
 //! program may use only some of the calls, hence the attributes here.
 //!
 //! What makes it quick is said where it is done: in `opening` for the check, in `tree` for climbs, in
-//! `list` and `editor` for lines, in `holders` for counts, in `sets` and `text` for the report.
+//! `list` and `editor` for lines, in `permission` and `holders` for folders, in `holders` for counts, in
+//! `sets` and `text` for the report.
 
 mod asking;
 mod changing;
@@ -45,8 +46,8 @@ pub struct Answer {
     pub result: u32,
 }
 
-/// What is behind a permission set: number 0, the rule that decided the lines' part, and the sets that
-/// the permission set is put together from. Or the number of a question, and 0 in every other field.
+/// What is behind an item's own set: number 0, the rule that decided the lines' part, and the sets that
+/// the own set is put together from. Or the number of a question, and 0 in every other field.
 #[derive(Clone, Copy, Debug, Default, PartialEq, Eq)]
 pub struct Explanation {
     pub number: u32,
@@ -60,6 +61,8 @@ pub struct Explanation {
     pub operations: u32,
     /// From the item's owner up to the grant's domain.
     pub steps: u32,
+    /// The folder that applies to the item. Its explanation is the next.
+    pub folder: u32,
 }
 
 /// A call's result, or the first question that is answered no.
@@ -83,11 +86,6 @@ impl Explanation {
             number: question as u32,
             ..Explanation::default()
         })
-    }
-
-    #[inline]
-    fn permission_set(&self) -> u32 {
-        self.operations & (self.rule_set | self.everyone_set | self.role_set)
     }
 }
 

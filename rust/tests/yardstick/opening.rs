@@ -6,7 +6,7 @@
 
 use super::rows::{
     run_key, Grant, GrantRow, Item, ItemRow, Line, LineRow, Row, Subject, SubjectRow, EVERYONE,
-    GROUP, HIGHEST_FLAGS, IS_LIST, ITSELF, NO_LIST, NO_ROLE,
+    FOLDER_APPLIES, GROUP, HIGHEST_FLAGS, IS_LIST, ITSELF, NO_FOLDER, NO_LIST, NO_ROLE,
 };
 use super::tables::{item_index, Tables, HEADER_BYTES};
 use super::tree::{Climbs, Tree};
@@ -52,24 +52,37 @@ fn subjects_hold(subjects: &[SubjectRow]) -> bool {
     beyond_creators == 0
 }
 
-/// Flags are gathered: all bits that some item has, and those that every item named as list has.
+/// Flags are gathered: all bits that some item has, those that some item without a folder has, and those
+/// that every item named as list has. So are the differences between each number and the folder, as
+/// between neighbouring lines below.
 #[inline(never)]
 fn items_hold(items: &[ItemRow], subjects: u32) -> bool {
     let mut flags_of_some_item = 0;
+    let mut flags_without_folder = 0;
     let mut flags_of_every_list = IS_LIST;
-    for row in items {
+    let mut differences = 0;
+    for (number, row) in (1..).zip(items) {
         let item = Item::of(row);
         if item.owner >= subjects {
             return false;
         }
+        differences |= (number as u64).wrapping_sub(item.folder as u64 + 1);
         flags_of_some_item |= item.flags;
+        flags_without_folder |= if item.folder == NO_FOLDER {
+            item.flags
+        } else {
+            0
+        };
         match items.get(item_index(item.list)) {
             Some(list) => flags_of_every_list &= Item::of(list).flags,
             None if item.list == NO_LIST => (),
             None => return false,
         }
     }
-    flags_of_some_item <= HIGHEST_FLAGS && flags_of_every_list == IS_LIST
+    let folders_are_lower = differences >> 63 == 0;
+    let applied_are_there = flags_without_folder & FOLDER_APPLIES == 0;
+    let flags_hold = flags_of_some_item <= HIGHEST_FLAGS && flags_of_every_list == IS_LIST;
+    folders_are_lower && applied_are_there && flags_hold
 }
 
 /// Lines of one list and kind stand together, in a run. So the list and the kind are looked at only

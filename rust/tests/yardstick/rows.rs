@@ -7,11 +7,12 @@ pub type Row<const FIELDS: usize> = [[u8; 4]; FIELDS];
 pub type SubjectRow = Row<3>;
 pub type GrantRow = Row<5>;
 pub type LineRow = Row<4>;
-pub type ItemRow = Row<3>;
+pub type ItemRow = Row<4>;
 
 pub const CUSTODIAN: u32 = 0;
 pub const NO_ROLE: u32 = 0;
 pub const NO_LIST: u32 = 0;
+pub const NO_FOLDER: u32 = 0;
 pub const ALL: u32 = u32::MAX;
 
 /// Answered for steps where there are none.
@@ -33,7 +34,8 @@ pub const EVERYONE: u32 = 3;
 
 pub const IS_LIST: u32 = 1;
 pub const LOCKED: u32 = 2;
-pub const HIGHEST_FLAGS: u32 = IS_LIST | LOCKED;
+pub const FOLDER_APPLIES: u32 = 4;
+pub const HIGHEST_FLAGS: u32 = IS_LIST | LOCKED | FOLDER_APPLIES;
 
 #[derive(Clone, Copy)]
 pub struct Subject {
@@ -64,6 +66,7 @@ pub struct Item {
     pub owner: u32,
     pub list: u32,
     pub flags: u32,
+    pub folder: u32,
 }
 
 impl Subject {
@@ -142,12 +145,17 @@ impl Line {
 impl Item {
     #[inline]
     pub fn of(row: &ItemRow) -> Item {
-        let [owner, list, flags] = row.map(u32::from_le_bytes);
-        Item { owner, list, flags }
+        let [owner, list, flags, folder] = row.map(u32::from_le_bytes);
+        Item {
+            owner,
+            list,
+            flags,
+            folder,
+        }
     }
 
     pub fn row(self) -> ItemRow {
-        [self.owner, self.list, self.flags].map(u32::to_le_bytes)
+        [self.owner, self.list, self.flags, self.folder].map(u32::to_le_bytes)
     }
 
     #[inline]
@@ -157,6 +165,17 @@ impl Item {
 
     pub fn is_locked(self) -> bool {
         self.flags & LOCKED != 0
+    }
+
+    /// The folder that applies. It is 0 where none does: in an accepted image a folder that applies is
+    /// not 0.
+    #[inline]
+    pub fn applied_folder(self) -> u32 {
+        if self.flags & FOLDER_APPLIES != 0 {
+            self.folder
+        } else {
+            NO_FOLDER
+        }
     }
 }
 

@@ -62,7 +62,7 @@ pub struct Tables<'a> {
     pub subjects: Rows<'a, 3>,
     pub grants: Rows<'a, 5>,
     pub lines: Rows<'a, 4>,
-    pub items: Rows<'a, 3>,
+    pub items: Rows<'a, 4>,
 }
 
 impl<'a> Tables<'a> {
@@ -103,6 +103,12 @@ impl<'a> Tables<'a> {
     pub fn item(&self, number: u32) -> Option<Item> {
         let row = self.items.used.get(item_index(number))?;
         Some(Item::of(row))
+    }
+
+    /// The folder that applies to an item, if one does.
+    #[inline]
+    pub fn folder_of(&self, item: Item) -> Option<Item> {
+        self.item(item.applied_folder())
     }
 
     /// The item that is the list. None where question 13 is answered no.

@@ -10,7 +10,7 @@ pub struct Table<const FIELDS: usize> {
 pub const SUBJECTS: Table<3> = Table { index_in_header: 0 };
 pub const GRANTS: Table<5> = Table { index_in_header: 1 };
 pub const LINES: Table<4> = Table { index_in_header: 2 };
-pub const ITEMS: Table<3> = Table { index_in_header: 3 };
+pub const ITEMS: Table<4> = Table { index_in_header: 3 };
 
 impl<const FIELDS: usize> Table<FIELDS> {
     /// The offset of a row.

@@ -23,9 +23,16 @@ returns-2 : tie.Need-returns-2
 unfolding tablesBy
 returns-2 c = search (item-row, and-yes, and-no, said-yes, said-no)
 
+flags-fit-requires : tie.Need-flags-fit-requires
+flags-fit-requires c κs = search needs
+
 returns-3 : tie.Need-returns-3
 unfolding tablesBy
-returns-3 c = search (item-row, and-yes, and-last, said-yes)
+returns-3 c = search (item-row, and-yes, and-no, said-yes, said-no)
+
+returns-4 : tie.Need-returns-4
+unfolding tablesBy
+returns-4 c = search (item-row, and-yes, and-last, said-yes)
 
 pub item-fits-spec : {M : Type 1} → statement M
 item-fits-spec =
@@ -36,4 +43,6 @@ item-fits-spec =
     returns
     none-or-list-requires
     returns-2
-    returns-3)
+    flags-fit-requires
+    returns-3
+    returns-4)

@@ -32,8 +32,12 @@ set-on-requires c κs = search needs
 count-set-requires : tie.Need-count-set-requires Inv-loop μ-loop
 count-set-requires c κs = search (tally-fits, subjects-used, needs)
 
+-- `omega` does not find the fact that the numbers of a layout fit: it is too many steps back
 add-subject : tie.Need-add-subject Inv-loop μ-loop
-add-subject c = omega arith
+add-subject c =
+    let entry = c .before .before .before .before .before .before .before .before .before .before .before .before .before .before .before in
+    let layout-fits = entry .good .1 .0 in
+    omega arith
 
 loop-less : tie.Need-loop-less Inv-loop μ-loop
 loop-less c = omega arith

@@ -7,16 +7,12 @@ use Rattle.permission.proofs.decision.permissions_under.Tie as tie
 operations-under-requires : tie.Need-operations-under-requires
 operations-under-requires c κs = search needs
 
-objects-under-requires : tie.Need-objects-under-requires
-objects-under-requires c κs = search needs
-
-intersection-requires : tie.Need-intersection-requires
-intersection-requires c κs = search needs
+shared-objects-requires : tie.Need-shared-objects-requires
+shared-objects-requires c κs = search needs
 
 returns : tie.Need-returns
 returns c = search permissions-cut
 
 pub permissions-under-spec : {M : Type 1} → statement M
 permissions-under-spec =
-    tie.close
-    (tie.spec operations-under-requires objects-under-requires intersection-requires returns)
+    tie.close (tie.spec operations-under-requires shared-objects-requires returns)

@@ -17,6 +17,9 @@ lent-part-requires c κs = search needs
 operations-under-requires : tie.Need-operations-under-requires
 operations-under-requires c κs = search needs
 
+applied-folder-requires : tie.Need-applied-folder-requires
+applied-folder-requires c κs = search needs
+
 number-requires : tie.Need-number-requires
 number-requires c κs = search needs
 
@@ -44,6 +47,7 @@ explanation-under-spec =
     applied-lines-requires
     lent-part-requires
     operations-under-requires
+    applied-folder-requires
     number-requires
     group-requires
     all-privileges-requires

@@ -12,6 +12,9 @@ field-requires-2 c κs = search needs
 field-requires-3 : tie.Need-field-requires-3
 field-requires-3 c κs = search needs
 
+field-requires-4 : tie.Need-field-requires-4
+field-requires-4 c κs = search needs
+
 new-requires : tie.Need-new-requires
 new-requires c κs = search needs
 
@@ -20,4 +23,11 @@ returns c = cc
 
 pub item-in-spec : {M : Type 1} → statement M
 item-in-spec =
-    tie.close (tie.spec field-requires field-requires-2 field-requires-3 new-requires returns)
+    tie.close
+    (tie.spec
+    field-requires
+    field-requires-2
+    field-requires-3
+    field-requires-4
+    new-requires
+    returns)

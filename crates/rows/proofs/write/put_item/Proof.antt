@@ -27,6 +27,9 @@ add-at-list c = search needs
 add-at-flags : tie.Need-add-at-flags
 add-at-flags c = search needs
 
+add-at-folder : tie.Need-add-at-folder
+add-at-folder c = search needs
+
 put-field-requires : tie.Need-put-field-requires
 put-field-requires c κs = search needs
 
@@ -36,16 +39,23 @@ put-field-requires-2 c κs = search needs
 put-field-requires-3 : tie.Need-put-field-requires-3
 put-field-requires-3 c κs = search needs
 
+put-field-requires-4 : tie.Need-put-field-requires-4
+put-field-requires-4 c κs = search needs
+
 same-length-2 : tie.Need-same-length-2
 same-length-2 c = search needs
 
 returns-2 : tie.Need-returns-2
 returns-2 c =
-    let flags = c .before .before in
+    let folder = c .before .before in
+    let flags = folder .before .before .before .before in
     let list = flags .before .before .before .before in
     let owner = list .before .before .before .before in
     row-put _ _ _ _ _ item-lawful (omega arith)
-    (then (owner .put-field .ensures) (then (list .put-field2 .ensures) (then (flags .put-field3 .ensures) none)))
+    (then (owner .put-field .ensures)
+    (then (list .put-field2 .ensures)
+    (then (flags .put-field3 .ensures)
+    (then (folder .put-field4 .ensures) none))))
 
 pub put-item-spec : {M : Type 1} → statement M
 put-item-spec =
@@ -57,8 +67,10 @@ put-item-spec =
     returns
     add-at-list
     add-at-flags
+    add-at-folder
     put-field-requires
     put-field-requires-2
     put-field-requires-3
+    put-field-requires-4
     same-length-2
     returns-2)

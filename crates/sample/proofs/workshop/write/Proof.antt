@@ -8,10 +8,10 @@ use Rattle.sample.proofs.workshop.write.Statement.{statement}
 use Rattle.sample.proofs.workshop.write.Tie as tie
 
 abbrev Inv-loop : tie.InvT-loop
-Inv-loop image₀ n₀ image n = (n ≤ 79) × (length image ≡ length image₀)
+Inv-loop image₀ n₀ image n = (n ≤ 84) × (length image ≡ length image₀)
 
 abbrev μ-loop : tie.MeasureT-loop
-μ-loop image₀ n₀ image n = 79 - n
+μ-loop image₀ n₀ image n = 84 - n
 
 loop-holds : tie.Need-loop-holds Inv-loop μ-loop
 loop-holds c = search needs
