@@ -18,7 +18,6 @@ use Rattle.model.specs.Permission.{partOn, folderOn, leadsUp, permissionSet}
 use Rattle.model.specs.Calls.{isEditor, lowestEditor}
 use Rattle.laws.specs.Tests.{lt-eq-gt}
 use Rattle.laws.specs.Counts.{none-lowest, some-lowest}
-use Rattle.laws.specs.Sets.{has-and}
 use Rattle.laws.specs.Rows.{rows-count}
 use Rattle.permission.specs.Sets.{set-has}
 use Rattle.holding.specs.declared.editors.SoughtEditor.{SoughtEditor}

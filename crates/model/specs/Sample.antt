@@ -257,8 +257,8 @@ lowerOwnerCases = case 4 7 2 11 ∷ []
 abbrev pub lowerOwnerReasons : List Explanation
 lowerOwnerReasons = because 3 0 8 1 3 11 1 ∷ []
 
--- The workshop with items in folders: 5 and 6 are one above the other, and the set of 3 applies to 5. The folder of 7 does not
--- apply to it, the one of 8 does. Only the custodian has a set on 4.
+-- The workshop with items in folders: 5 is in folder 3 and 6 in folder 5, and both apply. 7 is in folder 4, on which only the
+-- custodian has a set, and which does not apply. 8 is in folder 7, which does.
 abbrev hallOf : List ItemRow → Tables
 hallOf more =
     record {

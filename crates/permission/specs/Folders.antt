@@ -14,6 +14,12 @@ use Rattle.laws.specs.Tests.{true-T}
 use Rattle.laws.specs.Sets.{and-assoc}
 use Rattle.laws.specs.Folders.{leads-lower, shared-on}
 
+-- the folder that applies to an item whose row was read
+pub folder-read : (t : Tables) (i : ℕ) (row : ItemRow)
+    → row ≡ itemIn (t .items) i
+    → (f : ℕ) → f ≡ folderOn row → appliedFolder (t .items) i ≡ f
+folder-read t i row read f above = rw (← read) (sym above)
+
 module _ (t : Tables) (s : ℕ) (x : SoughtGrant) (set i : ℕ) where
   abbrev S : ℕ → ℕ
   S = sharedUp (t .items) (objectUnder t s (foundGrant x))
@@ -35,7 +41,7 @@ module _ (t : Tables) (s : ℕ) (x : SoughtGrant) (set i : ℕ) where
       is-object = rw (← read) (sym there)
 
       applied : appliedFolder (t .items) at ≡ f
-      applied = rw (← read) (sym above)
+      applied = folder-read t at row read f above
 
       pub left-last : not b ≡ true → cut ≡ set ∩ S i
       left-last last =

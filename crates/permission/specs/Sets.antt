@@ -17,11 +17,12 @@ use Rattle.model.specs.WhoAndWhat.{everything, has, _∪_, _∩_}
 use Rattle.model.specs.Image.{Tables, widthIn, privilegesIn, itemIn}
 use Rattle.model.specs.Permission.{ruleNumber, ruleGroup, ruleSet, ruleOn, everyoneOn, explanationUnder, explanation}
 use Rattle.model.specs.Permission.{foundGrant, partOn, lentOperations, domainSteps, lentOn, grantOf}
-use Rattle.model.specs.Permission.{operationUnder, objectUnder, ownUnder, folderOn, appliedFolder, leadsUp, sharedUp, permissionUnder}
+use Rattle.model.specs.Permission.{operationUnder, objectUnder, ownUnder, folderOn, leadsUp, sharedUp, permissionUnder}
 use Rattle.model.specs.Permission.{operationSet, permissionSet}
 use Rattle.laws.specs.Tests.{two}
 use Rattle.laws.specs.Sets.{has-and}
 use Rattle.laws.specs.Folders.{permission-up, permission-cut}
+use Rattle.permission.specs.Folders.{folder-read}
 
 module _ (t : Tables) (s : ℕ) (g : Option GrantRow) (a b r : ℕ) where
   pub operations-joined : a ≡ privilegesIn (t .subjects) s → b ≡ lentOperations t g → r ≡ a ∪ b → r ≡ operationUnder t s g
@@ -85,11 +86,8 @@ module _ (t : Tables) (s i : ℕ) (x : ItemRow) (read : x ≡ itemIn (t .items) 
 
   -- b is whether the way goes on to the folder f that applies
   module _ (f : ℕ) (above : f ≡ folderOn x) (b : Bool) (asked : b ≡ leadsUp i f) where
-    applied : appliedFolder (t .items) i ≡ f
-    applied = rw (← read) (sym above)
-
     step : permissionSet t s 0 i ≡ cond b (ownUnder t s none i ∩ permissionUnder t s none f) (ownUnder t s none i)
-    step = permission-up t s none i ∙ rw (applied, ← asked)
+    step = permission-up t s none i ∙ rw (folder-read t i x read f above, ← asked)
 
     pub set-alone : (p : ℕ) → p ≡ privilegesIn (t .subjects) s ∩ partOn t s x → not b ≡ true → p ≡ permissionSet t s 0 i
     set-alone p own last = own ∙ own-on-row ∙ sym (step ∙ rw (not-true b last))
