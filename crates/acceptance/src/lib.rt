@@ -1,4 +1,6 @@
 // Questions 1 to 7: whether bytes are an image that the other calls may work on.
+#![tactic(auto)]
+
 ghost use Rattle.std.specs.Prelude.{◌≡◌};
 ghost use Rattle.model.specs.Questions.{check, opened, refusal_of};
 

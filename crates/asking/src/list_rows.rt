@@ -12,7 +12,7 @@ use tables::items::is_list;
 
 // The rows of a list: the layout of the image, and two indices. The rows start at the first index and end before the
 // second. Or the refusal, where there is one.
-#[derive(Drop)]
+#[derive(Clone, Copy)]
 pub enum ListRows {
     Rows(Layout, u32, u32),
     Refused(u32),

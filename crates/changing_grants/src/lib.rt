@@ -1,4 +1,6 @@
 // The calls that change grants: set grant and remove grant. The questions find the row index, and the change writes there.
+#![tactic(auto)]
+
 ghost use Rattle.std.specs.Prelude.{◌≡◌};
 ghost use Rattle.model.specs.Calls.Change.{set_grant, remove_grant};
 ghost use Rattle.model.specs.Questions.{act};

@@ -1,6 +1,8 @@
 // The calls that change items: create item, bind and hand over.
+#![tactic(auto)]
+
 ghost use Rattle.std.specs.Prelude.{◌≡◌};
-ghost use Rattle.model.specs.Image.{item_in, with_list, with_owner};
+ghost use Rattle.model.specs.Image.{tables_by, item_in, with_list, with_owner};
 ghost use Rattle.model.specs.Calls.Change.{create_item, bind, hand_over};
 ghost use Rattle.model.specs.Questions.{act};
 ghost use Rattle.store.specs.Stores.{over_item};
@@ -87,7 +89,7 @@ pub fn hand_over(image: &mut [u8], caller: Subject, item: Item, owner: Subject) 
 
 // Writes the item's row as it was read, its folder too, but for the list.
 fn put_list(image: &mut [u8], layout: Layout, item: Item, list: Item)
-    ensures { let t = tables_at layout image.entry in
+    ensures { let t = tables_by layout image.old in
         image.new
         ≡ over_item layout.items item.0 (with_list (item_in t.items item.0) list.0) image.old }
 {
@@ -97,7 +99,7 @@ fn put_list(image: &mut [u8], layout: Layout, item: Item, list: Item)
 
 // Writes the item's row as it was read, but for the owner.
 fn put_owner(image: &mut [u8], layout: Layout, item: Item, owner: Subject)
-    ensures { let t = tables_at layout image.entry in
+    ensures { let t = tables_by layout image.old in
         image.new
         ≡ over_item layout.items item.0 (with_owner (item_in t.items item.0) owner.0) image.old }
 {

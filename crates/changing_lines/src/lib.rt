@@ -1,4 +1,6 @@
 // The calls that change lines: set line and remove line. The questions find the row index, and the change writes there.
+#![tactic(auto)]
+
 ghost use Rattle.std.specs.Prelude.{◌≡◌};
 ghost use Rattle.model.specs.Calls.Change.{set_line, remove_line};
 ghost use Rattle.model.specs.Questions.{act};

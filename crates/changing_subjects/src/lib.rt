@@ -1,6 +1,8 @@
 // The call that changes subjects: define subject.
+#![tactic(auto)]
+
 ghost use Rattle.std.specs.Prelude.{◌≡◌};
-ghost use Rattle.model.specs.Image.{width_of, subject_format, subject_row};
+ghost use Rattle.model.specs.Image.{tables_by, width_of, subject_format, subject_row};
 ghost use Rattle.model.specs.Calls.{new_privileges};
 ghost use Rattle.model.specs.Calls.Change.{define_subject};
 ghost use Rattle.model.specs.Questions.{act};
@@ -53,7 +55,7 @@ fn add_defined(
     parent: Subject,
     privileges: Privileges,
 )
-    ensures { let t = tables_at layout image.entry in
+    ensures { let t = tables_by layout image.old in
         image.new
         ≡ with_row (subject_format (width_of layout)) subjects_counter layout.subjects layout.subjects.used
         (subject_row parent.0 (new_privileges t caller.0 privileges) caller.0) image.old }

@@ -7,7 +7,7 @@ use Rattle.model.specs.Computing.{computing}
 use Rattle.model.specs.Sample.{workshop}
 use Rattle.strangers.specs.Sequences.{Step, run, writing}
 use Rattle.strangers.specs.Sequences.Step.{changes}
-use Rattle.strangers.specs.Walk.{walk, folders_within}
+use Rattle.strangers.proofs.Walk.{walk, folders_within}
 use Rattle.claim_cases.specs.Without.{Clause, Without}
 use Rattle.claim_cases.specs.Without.Clause.{nothing, folder_of_document, folders_of_folders}
 use Rattle.claim_cases.specs.Without.Clause.{list_of_document, list_of_folder, lists_of_lists}

@@ -9,7 +9,7 @@ use Rattle.strangers.specs.Sequences.{Step, run, writing, Start, Followed, Insid
 use Rattle.strangers.specs.Sequences.Start.{the_document, its_folder}
 use Rattle.strangers.specs.Sequences.Followed.{its_list, list_of_followed}
 use Rattle.strangers.specs.Sequences.Insider.{the_custodian, owns_document, owns_list, may_edit}
-use Rattle.strangers.specs.Demand3.{demand_3}
+use Rattle.strangers.proofs.Demand3.{demand_3}
 use Rattle.claim_cases.specs.Without.{Clause, same_clause, clauses_of_folder, clauses_of_way, clauses_of_editor, clauses_of}
 use Rattle.claim_cases.specs.Without.{StrangerBut, ClaimBut, CoveredBut, Without}
 use Rattle.claim_cases.specs.Without.Clause.{nothing, folder_of_document, folders_of_folders}

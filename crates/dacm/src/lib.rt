@@ -1,6 +1,8 @@
 // The calls under C's conventions: the functions of the static library, which include/dacm.h declares. Each hands its
 // arguments to the call of the same meaning and has that call's contract. An `Answer` is number 0 and the call's result, or
 // the refusal and result 0.
+#![tactic(auto)]
+
 ghost use Rattle.std.specs.Prelude.{◌≡◌};
 ghost use Rattle.model.specs.Calls.Ask.{check_image, operation_set_of, permission_set_of, list_count, find_editor, steps_up_of};
 ghost use Rattle.model.specs.Calls.Change.{define_subject, set_grant, remove_grant, set_line, remove_line, create_item, bind, hand_over};
@@ -68,7 +70,7 @@ pub extern "C" fn dacm_count_holders(image: &[u8], item: Item, counts: &mut [u32
 pub extern "C" fn dacm_list_count(image: &[u8], list: Item) -> Answer
     ensures { result ≡ ask image.now (list_count list.0) }
 {
-    asking::lines::list_count(image, list)
+    asking::list_lines::list_count(image, list)
 }
 
 // The offset in the image at which the rows of a list start. Where the call is refused or the list has no rows, it is 0.
@@ -76,7 +78,7 @@ pub extern "C" fn dacm_list_count(image: &[u8], list: Item) -> Answer
 pub extern "C" fn dacm_list_start(image: &[u8], list: Item) -> usize
     ensures { result ≡ list_start image.now list.0 }
 {
-    asking::lines::list_start(image, list)
+    asking::list_lines::list_start(image, list)
 }
 
 // Finds the lowest subject, other than the custodian, that may edit the list without claiming a role. Its number is the

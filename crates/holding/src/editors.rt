@@ -15,7 +15,7 @@ use rows::read::item_at;
 use tables::subjects::privileges_of;
 
 // Whom a search for an editor finds.
-#[derive(Drop)]
+#[derive(Clone, Copy)]
 pub enum SoughtEditor {
     Editor(Subject),
     Nobody,

@@ -14,7 +14,7 @@ use tables::subjects::parent_of;
 
 // What a list's lines say of a group: its line; or that it has none, and a bound: from the bound on up to this group, no group
 // has a line. Then only a group below the bound may have one, and with bound 0 none has.
-#[derive(Drop)]
+#[derive(Clone, Copy)]
 pub enum NearestGroup {
     Line(LineRow),
     Below(u32),

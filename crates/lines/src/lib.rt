@@ -1,6 +1,8 @@
 // The lines that apply to a subject, the rule by which they decide, and what they give. Like all functions that decide a
 // permission, these take the image and its layout and check neither. They are total: they answer by the tables that the layout
 // cuts out of the image.
+#![tactic(auto)]
+
 ghost use Rattle.std.specs.Prelude.{◌≢◌, ◌≡◌};
 ghost use Rattle.model.specs.Image.{everyone_kind, parent_in};
 ghost use Rattle.model.specs.Permission.{line_in, line_set, own_rule, rule_on, everyone_on, part_on};
@@ -14,7 +16,7 @@ use sizes::all_privileges;
 mod groups;
 
 // The lines that apply to a subject on an item: the rule that decides, with its line, and what the line for everyone adds.
-#[derive(Drop)]
+#[derive(Clone, Copy)]
 pub struct AppliedLines {
     pub rule: Rule,
     pub everyone: Privileges,

@@ -1,5 +1,7 @@
 // The basic types, constants and functions of the library: numbers, rows, privilege positions, calls. specs/ defines what they
 // mean, in one file for each section of document 01.
+#![tactic(auto)]
+
 ghost use Rattle.std.specs.Prelude.{◌≡◌};
 ghost use Rattle.model.specs.Tree.{steps_number, found_steps};
 ghost use Rattle.model.specs.WhoAndWhat.{mask_of, needed_position, has, within, ◌∪◌, ◌∩◌};
@@ -12,15 +14,15 @@ pub mod refusal;
 
 // A subject, an item and a role are each a number with a type of its own, so that no call takes one for another.
 #[repr(C)]
-#[derive(Drop)]
+#[derive(Clone, Copy)]
 pub struct Subject(pub u32);
 
 #[repr(C)]
-#[derive(Drop)]
+#[derive(Clone, Copy)]
 pub struct Item(pub u32);
 
 #[repr(C)]
-#[derive(Drop)]
+#[derive(Clone, Copy)]
 pub struct Role(pub u32);
 
 // A set of privileges: bit n is position n. One alias, so that its width stands once.
@@ -28,14 +30,14 @@ pub type Privileges = u32;
 
 pub const CUSTODIAN: u32 = 0;
 
-#[derive(Drop)]
+#[derive(Clone, Copy)]
 pub struct SubjectRow {
     pub parent: Subject,
     pub privileges: Privileges,
     pub creator: Subject,
 }
 
-#[derive(Drop)]
+#[derive(Clone, Copy)]
 pub struct GrantRow {
     pub receiver: Subject,
     pub role: Role,
@@ -44,7 +46,7 @@ pub struct GrantRow {
     pub privileges: Privileges,
 }
 
-#[derive(Drop)]
+#[derive(Clone, Copy)]
 pub struct LineRow {
     pub list: Item,
     pub kind: u32,
@@ -52,7 +54,7 @@ pub struct LineRow {
     pub privileges: Privileges,
 }
 
-#[derive(Drop)]
+#[derive(Clone, Copy)]
 pub struct ItemRow {
     pub owner: Subject,
     pub list: Item,
@@ -61,7 +63,7 @@ pub struct ItemRow {
 }
 
 // The rule that decides what the lines of an item's list give a subject, with the line that it found.
-#[derive(Drop)]
+#[derive(Clone, Copy)]
 pub enum Rule {
     Custodian,
     OwnerLine(LineRow),
@@ -71,21 +73,21 @@ pub enum Rule {
 }
 
 // The grant that a subject holds, or might hold, under a role; or that there is none.
-#[derive(Drop)]
+#[derive(Clone, Copy)]
 pub enum SoughtGrant {
     Grant(GrantRow),
     NoGrant,
 }
 
 // How many steps lead from a subject up to the root of a tree; or that it is outside that tree.
-#[derive(Drop)]
+#[derive(Clone, Copy)]
 pub enum SoughtSteps {
     Steps(u32),
     Outside,
 }
 
 // One table of an image: how many rows are in use, the offset at which it starts, and the offset right behind its last byte.
-#[derive(Drop)]
+#[derive(Clone, Copy)]
 pub struct Table {
     pub used: u32,
     pub start: u32,
@@ -93,7 +95,7 @@ pub struct Table {
 }
 
 // Where the four tables of an image start and end.
-#[derive(Drop)]
+#[derive(Clone, Copy)]
 pub struct Layout {
     pub subjects: Table,
     pub grants: Table,
@@ -102,7 +104,7 @@ pub struct Layout {
 }
 
 // What opening an image answers: the layout of an accepted image, or the refusal.
-#[derive(Drop)]
+#[derive(Clone, Copy)]
 pub enum Opened {
     With(Layout),
     Refused(u32),
@@ -110,7 +112,7 @@ pub enum Opened {
 
 // What a call answers: 0 and its result, or the refusal and 0.
 #[repr(C)]
-#[derive(Drop)]
+#[derive(Clone, Copy)]
 pub struct Answer {
     pub number: u32,
     pub result: u32,
@@ -193,7 +195,7 @@ impl SoughtSteps {
 // together, the steps from the item's owner up to the grant's domain, and the folder that applies, or 0. Or the refusal, and 0 in
 // every other field.
 #[repr(C)]
-#[derive(Drop)]
+#[derive(Clone, Copy)]
 pub struct Explanation {
     pub number: u32,
     pub rule: u32,

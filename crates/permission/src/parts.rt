@@ -23,7 +23,7 @@ pub fn lent_operations(image: &[u8], layout: Layout, grant: SoughtGrant) -> Priv
 }
 
 // What a grant adds to the object set of an item, and the steps from the item's owner up to the grant's domain.
-#[derive(Drop)]
+#[derive(Clone, Copy)]
 pub struct LentPart {
     pub steps: SoughtSteps,
     pub privileges: Privileges,

@@ -1,14 +1,16 @@
 // The report as text, a page at a time: a host prints the first line and then page after page. A page is filled from its
 // end, because the last digit of a number is the first that is known. The text is then what the page ends in.
+#![tactic(auto)]
+
 ghost use Rattle.std.specs.Prelude.{◌≡◌, ◌+◌, ◌-◌, ◌^◌, ◌<◌, length};
 ghost use Rattle.reporting.specs.Pages.{first_line, line_count, page as page_text, page_size, ending_in};
 ghost use Rattle.model.specs.Lent.{tables_at};
 
-use crate::lines::put_lines;
+use crate::report_lines::put_lines;
 use crate::text::{put_bytes, put_number};
 use model::Layout;
 
-mod lines;
+mod report_lines;
 mod text;
 
 // How many bytes a page has.

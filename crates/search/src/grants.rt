@@ -12,7 +12,7 @@ use rows::read::{grant_among, grant_rows};
 
 // What the search for a grant answers: the index of the row with the key, and that row; or, where no row has the key, its
 // insertion index.
-#[derive(Drop)]
+#[derive(Clone, Copy)]
 pub enum FoundGrant {
     At(u32, GrantRow),
     Absent(u32),

@@ -1,6 +1,8 @@
 // Finds rows of the two sorted tables by their keys, and the row index of a key. A function that searches takes the
 // image and a layout, answers from the tables that the layout cuts out of the image, and is total for any layout. The
 // other functions compare a key or look at a kind.
+#![tactic(auto)]
+
 ghost use Rattle.std.specs.Prelude.{◌≡◌};
 ghost use Rattle.model.specs.Sorted.{middle};
 ghost use Rattle.search.specs.RowIndices.{is_existing};
@@ -10,7 +12,7 @@ pub mod lines;
 
 // What the search for a key finds: the index of the existing row with this key or, if no row has the key, the insertion
 // index of a new one.
-#[derive(Drop)]
+#[derive(Clone, Copy)]
 pub enum RowIndex {
     Existing(u32),
     New(u32),

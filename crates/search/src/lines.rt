@@ -12,7 +12,7 @@ use rows::read::{line_among, line_rows};
 
 // What the search for a line answers: the index of the row with the key, and that row; or, where no row has the key, its
 // insertion index.
-#[derive(Drop)]
+#[derive(Clone, Copy)]
 pub enum FoundLine {
     At(u32, LineRow),
     Absent(u32),

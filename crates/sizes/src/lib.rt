@@ -1,6 +1,8 @@
 // Everything that depends on the size of a privilege field: the field itself, the sizes of the rows and their offsets.
 // All other code that reads or writes rows goes through here, except for the arrays in which `store` makes the bytes of
 // a new row.
+#![tactic(auto)]
+
 ghost use Rattle.std.specs.Prelude.{◌≡◌, ◌+◌, ◌*◌, ◌≤◌, ◌<◌, ◌^◌};
 ghost use Rattle.model.specs.Image.{bytes_of, field_at, size, subject_format, grant_format, line_format, item_format, width_of};
 ghost use Rattle.model.specs.WhoAndWhat.{everything, positions_of};

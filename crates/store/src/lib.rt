@@ -1,6 +1,8 @@
 // Stores rows in the tables of an image and removes them, together with the count in the header. A new subject or item
 // becomes the last row of its table. A grant or a line goes to the row index that a search found. No function asks
 // whether there is a free row: the questions before a call do.
+#![tactic(auto)]
+
 ghost use Rattle.std.specs.Prelude.{◌≡◌};
 ghost use Rattle.model.specs.Image.{width_of, subject_format, grant_format, line_format, item_format};
 ghost use Rattle.store.specs.Stores.{subjects_counter, grants_counter, lines_counter, items_counter};
@@ -15,14 +17,14 @@ use sizes::{grant_size, item_size, line_size, subject_size};
 mod moves;
 
 // What the questions of a call that sets a row decide: the row index at which it is stored, or the refusal.
-#[derive(Drop)]
+#[derive(Clone, Copy)]
 pub enum Storing {
     At(RowIndex),
     Refused(u32),
 }
 
 // What the questions of a call that removes a row decide: the index of this row, or the refusal.
-#[derive(Drop)]
+#[derive(Clone, Copy)]
 pub enum Removing {
     Row(u32),
     Refused(u32),

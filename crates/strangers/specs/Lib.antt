@@ -1,12 +1,3 @@
 -- Demand 3. First its definitions, the section of document 01 that is here and not in `model`. And that a walk meets
 -- exactly the followed lists.
 pub mod Sequences
-pub mod Walk
--- And that document 02, P4, makes nobody an insider and leaves nobody out.
-pub mod SameInsiders
--- Then what strangers cannot reach: the watched items; all that the permission set is read from; the calls, one by one.
-pub mod Watched
-pub mod Untouched
-pub mod Calls
--- Last the theorem, `demand_3`.
-pub mod Demand3

@@ -1,5 +1,7 @@
 // What the benchmark times beside the calls: the search for a line by itself, and a pass over all lines. They are exported from
 // a static library of their own, which only the benchmark links. Neither checks the image.
+#![tactic(auto)]
+
 ghost use Rattle.std.specs.Prelude.{[], ◌∷◌, ◌≡◌};
 ghost use Rattle.model.specs.Sorted.{count_lower, insertion_index};
 ghost use Rattle.model.specs.Image.{tables, line_key};

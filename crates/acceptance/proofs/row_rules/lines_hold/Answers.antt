@@ -1,0 +1,33 @@
+use native.Mathlib.Omega.{arith}
+use Rattle.model.specs.Image.{tables_by, lines_hold}
+use Rattle.acceptance.specs.Passes.{ascends_none, ascends_broken, ascends_other, ascends_next, ascends_all}
+use Rattle.acceptance.specs.Rules.{line_follows}
+use Rattle.std.proofs.lemmas.Bool.{not_from_true, not_from_false}
+use Rattle.acceptance.proofs.row_rules.lines_hold.Goals as goal
+
+pub loop-n-init : goal.loop-n-init
+loop-n-init c = search (ascends_none, line_follows)
+
+pub returns-then-not-line_before : goal.returns-then-not-line_before
+unfolding lines_hold tables_by
+returns-then-not-line_before c = search ascends_other
+
+pub returns-then-not-line_fits : goal.returns-then-not-line_fits
+unfolding lines_hold tables_by
+returns-then-not-line_fits c = search ascends_broken
+
+-- `omega` does not find the fact that the numbers of a layout fit: it is too many steps back
+pub overflow_add-n : goal.overflow_add-n
+overflow_add-n c =
+    let layout-fits = c.well_formed.1.0 in
+    omega arith
+
+pub loop-n-preserved : goal.loop-n-preserved
+loop-n-preserved c =
+    ascends_next _ _ _ _ _ _ _ _ _ c.loop-n.invariant c.loop-n-test.true c.line_at-row.ensures _
+    c.line_before.ensures
+    (not_from_true _ c.if-not-line_before.false) _ c.line_fits.ensures (not_from_true _ c.if-not-line_fits.false)
+
+pub returns : goal.returns
+unfolding lines_hold tables_by
+returns c = search ascends_all

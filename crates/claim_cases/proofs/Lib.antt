@@ -1,0 +1,2 @@
+-- That the example is one.
+pub mod Example
