@@ -1,2 +1,2 @@
--- That the example is one.
+-- That the example is one, and that the theorem applies to it.
 pub mod Example

@@ -1,3 +1,4 @@
+-- Demand 3. First, that a walk meets exactly the followed lists.
 pub mod Walk
 -- And that document 02, P4, makes nobody an insider and leaves nobody out.
 pub mod SameInsiders
