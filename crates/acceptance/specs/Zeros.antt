@@ -1,8 +1,10 @@
 -- Question 7: whether bytes are all zero, by a loop that looks at each of them or at eight at once. Then the bytes between
 -- two offsets, which may be past the end.
-use Rattle.std.specs.Prelude.{Bool, true, false, ◌&&◌, List, [], ◌∷◌, ◌≡◌, refl, ℕ, zero, suc, ◌+◌, ◌-◌, ◌*◌, ◌/◌, ◌<◌, ◌≤◌, eqb, length, get_or, take, drop}
+use Rattle.std.specs.Prelude.{Bool, true, false, ◌&&◌, List, [], ◌∷◌, ◌≡◌, refl, ℕ, zero, suc, ◌+◌, ◌-◌, ◌*◌, ◌/◌}
+use Rattle.std.specs.Prelude.{◌<◌, ◌≤◌, eqb, length, get_or, take, drop}
 use Rattle.std.proofs.Math.Bool.{and_assoc}
-use Rattle.std.proofs.Common.{⊎_elim, sym, ap, ◌∙◌, eq-zero-or-pos, arith, ne_eqb, length-drop, drop_of_length-le, drop-cons, take_all}
+use Rattle.std.proofs.Common.{⊎_elim, sym, ap, ◌∙◌, eq-zero-or-pos, arith, ne_eqb, length-drop, drop_of_length-le}
+use Rattle.std.proofs.Common.{drop-cons, take_all}
 use Rattle.std.specs.Int.Bits.{bit_or, or_zero_l, or_add_and}
 use Rattle.std.proofs.lemmas.Nat.{and_le_r}
 use Rattle.std.proofs.Math.Seq.{take-nil}

@@ -20,7 +20,8 @@ use Rattle.model.specs.Image.{layout_of, tables_by, tables, size, line_format, w
 use Rattle.model.specs.Image.{subject_used, group_kind, everyone_kind, kind_fits, lines_hold}
 use Rattle.model.specs.Calls.{rows_of, rows_before, ask_result}
 use Rattle.model.specs.Calls.Ask.{list_count}
-use Rattle.model.specs.Questions.{answer, check, opened, ask, ask_questions, image_questions, shows, list_start, list_extent, list_slice}
+use Rattle.model.specs.Questions.{answer, check, opened, ask, ask_questions, image_questions, shows, list_start}
+use Rattle.model.specs.Questions.{list_extent, list_slice}
 use Rattle.laws.specs.Tests.{and_l, and_r, All-map}
 use Rattle.laws.specs.Kept.{line_rules_lem, lines_ascending}
 use Rattle.laws.specs.Answers.{asked_no, asked_yes, asked_all, image_passed}

@@ -12,7 +12,8 @@ use Rattle.model.specs.declared.Opened.{Opened}
 use Rattle.model.specs.declared.Opened.TheVariants.{With}
 use Rattle.model.specs.declared.Table.{Table}
 use Rattle.model.specs.declared.ItemRow.{ItemRow}
-use Rattle.model.specs.Image.{layout_of, tables_by, tables, size, rows_in, item_format, item_row, item_in, encode, with_list, with_owner}
+use Rattle.model.specs.Image.{layout_of, tables_by, tables, size, rows_in, item_format, item_row, item_in, encode}
+use Rattle.model.specs.Image.{with_list, with_owner}
 use Rattle.model.specs.Calls.{with_items, after, change_result}
 use Rattle.model.specs.Calls.Change.{create_item, bind, hand_over}
 use Rattle.model.specs.Questions.{first_no, questions, answer, opened, act}

@@ -16,7 +16,8 @@ use Rattle.strangers.specs.Sequences.Followed.{its_list, list_of_followed}
 use Rattle.strangers.specs.Sequences.Insider.{the_custodian, owns_document, owns_list, may_edit}
 use Rattle.strangers.proofs.Walk.{some_of, among, lists_from, folders_within, folders_of}
 use Rattle.strangers.proofs.Walk.{folders_only, folder_among, list_of_start_met, list_of_list_met}
-use Rattle.claim_cases.specs.Without.{Clause, same_clause, clauses_of_folder, clauses_of_way, clauses_of_editor, clauses_of, InsiderBut}
+use Rattle.claim_cases.specs.Without.{Clause, same_clause, clauses_of_folder, clauses_of_way, clauses_of_editor}
+use Rattle.claim_cases.specs.Without.{clauses_of, InsiderBut}
 
 -- a test that counts as passed if P holds
 abbrev pub or_if : {P : Type 0} → Dec P → Bool → Bool

@@ -1,7 +1,8 @@
 -- For each clause of the claim, tables and calls for which the claim without that clause is false.
 use Rattle.std.specs.Prelude.{List, [], ◌∷◌, ◌≢◌, refl, ℕ}
 use Rattle.model.specs.WhoAndWhat.{everything}
-use Rattle.model.specs.Image.{Tables, subject_row, grant_row, line_row, item_row, itself_kind, group_kind, owner_kind, everyone_kind}
+use Rattle.model.specs.Image.{Tables, subject_row, grant_row, line_row, item_row, itself_kind, group_kind, owner_kind}
+use Rattle.model.specs.Image.{everyone_kind}
 use Rattle.model.specs.Calls.Change.{define_subject, set_grant, remove_grant, set_line, create_item, bind}
 use Rattle.model.specs.Computing.{computing}
 use Rattle.model.specs.Sample.{workshop}

@@ -87,7 +87,8 @@ module _ (left_out : Clause) where
               outside = apart_is left_out t document s (search (and_l, and_r));
               holds_none = λ d.
                   roles_apart_is left_out t document s
-                  (or_if_is (same_clause left_out Clause.no_role_of_insiders) (roles_apart left_out t document s) (search (and_l, and_r)) d);
+                  (or_if_is (same_clause left_out Clause.no_role_of_insiders) (roles_apart left_out t document s)
+                  (search (and_l, and_r)) d);
             };
       }
 

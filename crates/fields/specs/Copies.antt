@@ -1,6 +1,7 @@
 -- Loops that copy bytes one by one: what each turn keeps, and the bytes at the end of the loop.
 use Rattle.std.specs.Prelude.{List, ◌++◌, ◌≡◌, refl, ℕ, suc, ◌+◌, ◌-◌, ◌<◌, ◌≤◌, length, get_or, set, take, drop, replicate}
-use Rattle.std.proofs.Common.{append_assoc, append-nil, sym, ap, ◌∙◌, add-one, arith, length-drop, length-set, length-take-le, take-suc, drop-cons, get_or-drop, get_or-take, get_or-append-add}
+use Rattle.std.proofs.Common.{append_assoc, append-nil, sym, ap, ◌∙◌, add-one, arith, length-drop, length-set}
+use Rattle.std.proofs.Common.{length-take-le, take-suc, drop-cons, get_or-drop, get_or-take, get_or-append-add}
 use Rattle.std.proofs.lemmas.List.{length-replicate, get_or-replicate, set_at}
 use Rattle.std.proofs.Math.ListN.{get_or-append}
 use Rattle.std.proofs.Math.Seq.{slice_empty, paste, paste-zero, paste-suc, length_paste_head, take-length}

@@ -8,7 +8,8 @@ use Rattle.std.proofs.Math.Nat.{le_of_eq}
 use native.Mathlib.Omega.{arith}
 use Rattle.std.proofs.Math.ListN.{length, take, drop, replicate, length-drop, drop_of_length-le}
 use Rattle.std.proofs.lemmas.List.{length-replicate}
-use Rattle.std.proofs.Math.Seq.{paste, length-paste, length_paste_head, length-take-le, take-length, take_all, take_at, drop_at, take-take, take-append-le}
+use Rattle.std.proofs.Math.Seq.{paste, length-paste, length_paste_head, length-take-le, take-length, take_all}
+use Rattle.std.proofs.Math.Seq.{take_at, drop_at, take-take, take-append-le}
 use Rattle.fields.specs.Edits.{put_bytes, insert_bytes, remove_bytes, raised}
 use Rattle.fields.specs.Fitting.{fit}
 

@@ -1,7 +1,10 @@
 -- The loops of the count: counts are overwritten one after the other, a set is added to them, and one subject after the other is
 -- counted.
-use Rattle.std.specs.Prelude.{cond, List, [], ◌∷◌, ◌++◌, ◌≡◌, refl, ℕ, zero, suc, ◌+◌, ◌-◌, ◌/◌, ◌%◌, ◌^◌, ◌<◌, ◌≤◌, eqb, get_or, set, take, drop, replicate}
-use Rattle.std.proofs.Common.{sym, ap, ◌∙◌, div-one, mod-lt, pow-suc, add-zero, add-sub_of_le, Fits, lit<, length-set, length-append, length-drop, take-append-drop, drop_of_length-le, take-suc, drop-cons, length-take-le}
+use Rattle.std.specs.Prelude.{cond, List, [], ◌∷◌, ◌++◌, ◌≡◌, refl, ℕ, zero, suc, ◌+◌, ◌-◌, ◌/◌, ◌%◌, ◌^◌, ◌<◌, ◌≤◌}
+use Rattle.std.specs.Prelude.{eqb, get_or, set, take, drop, replicate}
+use Rattle.std.proofs.Common.{sym, ap, ◌∙◌, div-one, mod-lt, pow-suc, add-zero, add-sub_of_le, Fits, lit<, length-set}
+use Rattle.std.proofs.Common.{length-append, length-drop, take-append-drop, drop_of_length-le, take-suc, drop-cons}
+use Rattle.std.proofs.Common.{length-take-le}
 use Rattle.std.proofs.Math.Nat.{div-div-eq-div-mul}
 use Rattle.std.proofs.Math.Numerals.{add-one}
 use native.Mathlib.Omega.{arith}

@@ -12,7 +12,7 @@ use Rattle.model.specs.Lists.{Bytes}
 use Rattle.model.specs.Image.{Tables, tables_by, tables, encode}
 use Rattle.model.specs.Calls.{Change, Handed, after, change_result}
 use Rattle.model.specs.Calls.Change.{define_subject, set_grant, remove_grant, set_line, remove_line, create_item, bind, hand_over}
-use Rattle.model.specs.Questions.{image_questions, questions, first_no, answer, answered, check, opened, Accepted, act}
+use Rattle.model.specs.Questions.{image_questions, questions, first_no, answer, check, opened, Accepted, act}
 use Rattle.laws.specs.WellFormed.{WellFormed, fitting, Passed}
 use Rattle.laws.specs.Answers.{numbered, call_checked, call_passed}
 use Rattle.laws.specs.Asks.{result_image, result_no, result_done, number_said}

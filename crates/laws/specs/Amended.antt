@@ -76,7 +76,7 @@ module _ (t : Tables) (s : ℕ) (x : ItemRow) where
         | inl is ↦ inl (rw (eq-eqb s 0 is))
         | inr other ↦ elim (eq_or_ne s x.owner.0) [
           | inl owns ↦ owner_amended other owns
-          | inr Owns-not ↦ inl (rw (ne_eqb s 0 other, ne_eqb s x.owner.0 Owns-not))
+          | inr owns_not ↦ inl (rw (ne_eqb s 0 other, ne_eqb s x.owner.0 owns_not))
         ]
       ]
 

@@ -12,7 +12,8 @@ use Rattle.model.specs.Image.{Tables, layout_of, tables_by, tables, subject_used
 use Rattle.model.specs.Permission.{permission_set, explanation}
 use Rattle.model.specs.Calls.{Ask, ask_result, holder_counts}
 use Rattle.model.specs.Calls.Ask.{check_image, permission_set_of}
-use Rattle.model.specs.Questions.{Question, first_no, image_questions, ask_questions, explain_questions, holders_questions, check, opened}
+use Rattle.model.specs.Questions.{Question, first_no, image_questions, ask_questions, explain_questions}
+use Rattle.model.specs.Questions.{holders_questions, check, opened}
 use Rattle.model.specs.Questions.{answer, answered, ask, refused_explanation, explained, explain, count_holders}
 use Rattle.laws.specs.Tests.{◌and◌}
 use Rattle.laws.specs.Answers.{first_passed, first_left, first_right, asked_all}
@@ -161,7 +162,8 @@ module _ (img : List ℕ) (o : Opened) (is : o ≡ opened img) (i : ℕ) (old : 
   count_image n case e = e ∙ result_image img o is asked (λ t. 0) n case
 
   module _ (lay : Layout) (case : o ≡ With lay) where
-    pub count_no : (k : ℕ) → eqb k 0 ≡ false → k ≡ first_no (asked (tables_by lay img)) → a ≡ answer k 0 → a ≡ (count_holders img i old).answer
+    pub count_no : (k : ℕ) → eqb k 0 ≡ false → k ≡ first_no (asked (tables_by lay img)) → a ≡ answer k 0
+        → a ≡ (count_holders img i old).answer
     unfolding count_holders
     count_no k some h e = e ∙ result_no img o is asked (λ t. 0) lay case k some h
 

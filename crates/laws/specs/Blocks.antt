@@ -1,7 +1,8 @@
 -- A table's block of bytes, for any format. If the bytes of a table in an image are the block of some rows, the table holds
 -- these rows. The other way round, the block made of the rows that a table holds is the table's bytes.
 use Rattle.std.specs.Prelude.{List, [], ◌∷◌, ◌++◌, ◌≡◌, T, leb, eqb}
-use Rattle.std.proofs.Common.{append_assoc, ◌∙◌, mul-le-mul_right, mul-div_cancel, div-add-mod', eq-eqb, le→leb, leb→le, eqb→eq, length-append, take-append-drop, drop_at, length-take-le}
+use Rattle.std.proofs.Common.{append_assoc, ◌∙◌, mul-le-mul_right, mul-div_cancel, div-add-mod', eq-eqb, le→leb}
+use Rattle.std.proofs.Common.{leb→le, eqb→eq, length-append, take-append-drop, drop_at, length-take-le}
 use Rattle.std.proofs.Math.Path.{refl, ap}
 use Prim.Native.Nat.{ℕ, zero, suc, ◌+◌, ◌-◌, ◌*◌, ◌%◌, ◌<◌, ◌≤◌}
 use native.Mathlib.Omega.{arith}

@@ -1,7 +1,9 @@
 -- Fields and rows of fields, for any width. A number that is written as bytes is read back from them, and bytes that are read
 -- as a number are written back from it.
-use Rattle.std.specs.Prelude.{Bool, true, false, cond, List, [], ◌∷◌, ◌++◌, ◌≡◌, refl, ℕ, zero, suc, ◌+◌, ◌*◌, ◌/◌, ◌%◌, ◌^◌, ◌<◌, ◌≤◌, leb, length, take, drop, replicate}
-use Rattle.std.proofs.Common.{append_assoc, ⊎_elim, sym, ap, ◌∙◌, add-zero, zero-add, add_assoc, arith, le-leb, lit<, length-append, length-drop, take_at, drop_at, take-add, drop-drop, length-take-le}
+use Rattle.std.specs.Prelude.{Bool, true, false, cond, List, [], ◌∷◌, ◌++◌, ◌≡◌, refl, ℕ, zero, suc, ◌+◌, ◌*◌, ◌/◌}
+use Rattle.std.specs.Prelude.{◌%◌, ◌^◌, ◌<◌, ◌≤◌, leb, length, take, drop, replicate}
+use Rattle.std.proofs.Common.{append_assoc, ⊎_elim, sym, ap, ◌∙◌, add-zero, zero-add, add_assoc, arith, le-leb, lit<}
+use Rattle.std.proofs.Common.{length-append, length-drop, take_at, drop_at, take-add, drop-drop, length-take-le}
 use Rattle.std.proofs.lemmas.Bool.{lt-leb}
 use Rattle.std.proofs.Math.Arith.{mod-mul}
 use Rattle.model.specs.Lists.{Bytes, total}

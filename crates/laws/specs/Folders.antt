@@ -11,7 +11,8 @@ use Rattle.model.specs.declared.GrantRow.{GrantRow}
 use Rattle.model.specs.declared.ItemRow.{ItemRow}
 use Rattle.model.specs.WhoAndWhat.{has, ◌∩◌}
 use Rattle.model.specs.Image.{Tables, item_used}
-use Rattle.model.specs.Permission.{operation_under, object_under, own_under, applied_folder, leads_up, shared_within, shared_up, permission_under}
+use Rattle.model.specs.Permission.{operation_under, object_under, own_under, applied_folder, leads_up, shared_within}
+use Rattle.model.specs.Permission.{shared_up, permission_under}
 use Rattle.laws.specs.Tests.{two, true_T, and_l, and_r}
 use Rattle.laws.specs.Sets.{has_and, and_shared}
 

@@ -24,7 +24,8 @@ use Rattle.laws.specs.Asks.{asked_set}
 use Rattle.laws.specs.Kept.{custodian_has}
 
 -- the custodian holds every position on every item: they are all in its own set there
-custodian_owns : (t : Tables) → WellFormed t → (n : ℕ) → n < positions_of (width_in t) → (i : ℕ) → has n (own_under t custodian none i) ≡ true
+custodian_owns : (t : Tables) → WellFormed t → (n : ℕ) → n < positions_of (width_in t) → (i : ℕ)
+    → has n (own_under t custodian none i) ≡ true
 unfolding own_under operation_under object_under part_on deciding_rule everyone_set
 custodian_owns t well n h i =
     let all : has n (everything (width_in t)) ≡ true = has_everything (width_in t) n h in

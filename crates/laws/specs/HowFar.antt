@@ -14,8 +14,10 @@ use Rattle.model.specs.declared.ItemRow.{ItemRow}
 use Rattle.model.specs.declared.SubjectRow.{SubjectRow}
 use Rattle.model.specs.Tree.{steps_up, outside, steps_number}
 use Rattle.model.specs.HowFar.{HowFar}
-use Rattle.model.specs.Image.{Tables, longest_image, no_subject, no_item, width_of, width_in, layout_of, tables_by, tables, size, subject_format}
-use Rattle.model.specs.Image.{subject_in, parent_in, subject_used, item_in, item_used, subject_rules, item_rules, subjects_hold, items_hold}
+use Rattle.model.specs.Image.{Tables, longest_image, no_subject, no_item, width_of, width_in, layout_of, tables_by}
+use Rattle.model.specs.Image.{tables, size, subject_format}
+use Rattle.model.specs.Image.{subject_in, parent_in, subject_used, item_in, item_used, subject_rules, item_rules}
+use Rattle.model.specs.Image.{subjects_hold, items_hold}
 use Rattle.model.specs.Permission.{grant_of, explanation_under}
 use Rattle.model.specs.Calls.{ask_result}
 use Rattle.model.specs.Calls.Ask.{steps_up_of}

@@ -82,7 +82,7 @@ module _ (t : Tables) (hold : T (lines_hold t)) (s : ℕ) (x : ItemRow) where
         | inl is ↦ rw (eq-eqb s 0 is) (by_custodian is)
         | inr other ↦ rw (ne_eqb s 0 other) (elim (eq_or_ne s x.owner.0) [
           | inl owns ↦ rw (eq-eqb s x.owner.0 owns) (by_owner other owns)
-          | inr Owns-not ↦ rw (ne_eqb s x.owner.0 Owns-not) (by_own other (λ owns. absurd (Owns-not owns)))
+          | inr owns_not ↦ rw (ne_eqb s x.owner.0 owns_not) (by_own other (λ owns. absurd (owns_not owns)))
         ])
       ]
 
@@ -97,7 +97,7 @@ module _ (t : Tables) (hold : T (lines_hold t)) (s : ℕ) (x : ItemRow) where
           eq-eqb s x.owner.0 owns,
           no_row t hold x.list.0 owner_kind 0 (no_owner_line owns),
         )
-        | inr Owns-not ↦ rw (ne_eqb s 0 other, ne_eqb s x.owner.0 Owns-not)
+        | inr owns_not ↦ rw (ne_eqb s 0 other, ne_eqb s x.owner.0 owns_not)
       ]
 
   by_groups_alone : s ≢ custodian → NoDirectLine t s x → rule_on t s x ≡ group_rule up t.lines s x.list.0

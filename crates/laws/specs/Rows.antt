@@ -1,6 +1,8 @@
 -- The rows of a table, for any format: a row by its index, and rows to bytes and back. The laws of each format are at the end.
-use Rattle.std.specs.Prelude.{Bool, true, false, cond, List, [], ◌∷◌, ◌++◌, ◌≡◌, refl, ℕ, zero, suc, ◌+◌, ◌*◌, ◌<◌, ◌≤◌, leb, length, get_or, take, drop, replicate}
-use Rattle.std.proofs.Common.{append_assoc, sym, ◌∙◌, add_comm, zero-mul, suc-mul, le_of_suc-le-suc, not-suc-le-zero, arith, le-leb, length-append, length-drop, drop_at, drop-drop, take-add, drop-cons}
+use Rattle.std.specs.Prelude.{Bool, true, false, cond, List, [], ◌∷◌, ◌++◌, ◌≡◌, refl, ℕ, zero, suc, ◌+◌, ◌*◌, ◌<◌}
+use Rattle.std.specs.Prelude.{◌≤◌, leb, length, get_or, take, drop, replicate}
+use Rattle.std.proofs.Common.{append_assoc, sym, ◌∙◌, add_comm, zero-mul, suc-mul, le_of_suc-le-suc, not-suc-le-zero}
+use Rattle.std.proofs.Common.{arith, le-leb, length-append, length-drop, drop_at, drop-drop, take-add, drop-cons}
 use Rattle.std.proofs.Math.Path.{ap}
 use Rattle.std.proofs.lemmas.Bool.{lt-leb}
 use Rattle.std.proofs.lemmas.List.{length-replicate}
@@ -13,7 +15,8 @@ use Rattle.model.specs.Image.{Format, size, first_row, row_in_bytes, rows_from, 
 use Rattle.model.specs.Image.{fields_at, subject_format, grant_format, line_format, item_format}
 use Rattle.laws.specs.Tests.{All-append}
 use Rattle.laws.specs.WellFormed.{Fits}
-use Rattle.laws.specs.Fields.{fields_count, fields_fit, zeros_fit, fields_there, fields_back, row_length, row_bytes_lem, bytes_drop}
+use Rattle.laws.specs.Fields.{fields_count, fields_fit, zeros_fit, fields_there, fields_back, row_length}
+use Rattle.laws.specs.Fields.{row_bytes_lem, bytes_drop}
 
 -- What a format must fulfil: a row has one number for each field and is the row made of its numbers, a row made of numbers has
 -- these numbers, and a row has at least one byte.

@@ -1,14 +1,16 @@
 -- The permission set is what the explanations along the folders that apply share (document 02, P7). The argument: in an image that
 -- passes the check an item's folder has a lower number, so the folder that an explanation names is in use, its explanation is not
 -- refused either, and the way ends.
-use Rattle.std.specs.Prelude.{true, List, ◌≢◌, ◌≡◌, ℕ, zero, suc, ◌<◌, ◌≤◌, T, ltb, length}
+use Rattle.std.specs.Prelude.{true, List, ◌≢◌, ◌≡◌, ℕ, zero, suc, ◌<◌, ◌≤◌, T, length}
 use Rattle.std.proofs.Common.{inl, inr, ◌∙◌, arith, eq-eqb, ne_eqb, lt-ltb, ltb→lt}
 use Rattle.std.proofs.Math.Path.{refl, sym, ap}
 use Rattle.model.specs.declared.Answer.{Answer}
 use Rattle.model.specs.declared.Explanation.{Explanation}
 use Rattle.model.specs.WhoAndWhat.{has, ◌∩◌}
-use Rattle.model.specs.Image.{Tables, tables, no_item, folder_flag, item_in, subject_used, item_used, item_rules, items_hold, layout_of}
-use Rattle.model.specs.Permission.{grant_of, own_set, applied_folder, leads_up, permission_set, explanation_under, explanation, put_together}
+use Rattle.model.specs.Image.{Tables, tables, no_item, folder_flag, item_in, subject_used, item_used, item_rules}
+use Rattle.model.specs.Image.{items_hold, layout_of}
+use Rattle.model.specs.Permission.{grant_of, own_set, applied_folder, leads_up, permission_set, explanation_under}
+use Rattle.model.specs.Permission.{explanation, put_together}
 use Rattle.model.specs.Questions.{Question, image_questions, explain_questions, check, ask, explain}
 use Rattle.model.specs.Calls.Ask.{permission_set_of}
 use Rattle.model.specs.declared.Opened.TheVariants.{With}

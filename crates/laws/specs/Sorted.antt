@@ -19,7 +19,8 @@ use Rattle.std.proofs.Math.ListN.{length, get_elem?}
 use Rattle.std.specs.List.{AllByRecursion}
 use Rattle.model.specs.Lists.{if_there, is_there}
 use Rattle.model.specs.Sorted.{before, same, Found, found, middle}
-use Rattle.model.specs.Sorted.{ascending, row_with, count_lower, lower_at, same_at, halve, search, find_row, insertion_index, put, cut}
+use Rattle.model.specs.Sorted.{ascending, row_with, count_lower, lower_at, same_at, halve, search, find_row}
+use Rattle.model.specs.Sorted.{insertion_index, put, cut}
 use Rattle.laws.specs.Tests.{T_true, true_T, and_i, and_l, and_r, two, All-map, All-index}
 use Rattle.laws.specs.KeyOrder.{before_self, same_self, order, same_is, not_same, before_not_after, before_trans, middle_within}
 use Rattle.laws.specs.KeyOrder.Order.{lower, equal, higher}
@@ -369,11 +370,15 @@ module _ {A : Type 0} (key : A → List ℕ) where
     pub All-find : IfSome (λ r. P r × (key r ≡ k)) (find_row key k xs)
     All-find = rw (ap (λ (f : Found A). f.row) (search_halves k xs)) (All-halve (length xs) 0 (length xs))
 
-  pub find_put_other : (r : A) (xs : List A) (k : List ℕ) → T (ascending key xs) → key r ≢ k → find_row key k (put key r xs) ≡ find_row key k xs
+  pub find_put_other : (r : A) (xs : List A) (k : List ℕ) → T (ascending key xs)
+      → key r ≢ k
+      → find_row key k (put key r xs) ≡ find_row key k xs
   find_put_other r xs k up d =
       find_plain k (put key r xs) (ascending_put r xs up) ∙ row_put_other r xs k d ∙ sym (find_plain k xs up)
 
-  pub find_cut_other : (k : List ℕ) (xs : List A) (l : List ℕ) → T (ascending key xs) → k ≢ l → find_row key l (cut key k xs) ≡ find_row key l xs
+  pub find_cut_other : (k : List ℕ) (xs : List A) (l : List ℕ) → T (ascending key xs)
+      → k ≢ l
+      → find_row key l (cut key k xs) ≡ find_row key l xs
   find_cut_other k xs l up d =
       find_plain l (cut key k xs) (ascending_cut k xs up) ∙ row_cut_other k xs l d ∙ sym (find_plain l xs up)
 

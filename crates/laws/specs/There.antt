@@ -28,7 +28,10 @@ pub record Sized (b : Block) : Type 0 where
   pub long : length b.bytes ≡ b.extent
   pub are_bytes : Bytes b.bytes
 
-header_fits : (at : ℕ) (bs : List Block) → AllByRecursion Sized bs → at + extents bs < 256 ^ 4 → AllByRecursion (λ v. v < 256 ^ 4) (header_of at bs)
+header_fits : (at : ℕ) (bs : List Block)
+    → AllByRecursion Sized bs
+    → at + extents bs < 256 ^ 4
+    → AllByRecursion (λ v. v < 256 ^ 4) (header_of at bs)
 header_fits at [] s h = (omega arith, tt)
 header_fits at (b ∷ bs) s h =
     let few : b.used ≤ b.extent = s.0.used_few in

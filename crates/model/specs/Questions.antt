@@ -1,6 +1,7 @@
 -- Document 01, "Questions before each call": the questions of each call as one list, in the document's order, and the first
 -- one answered no. Then what a call answers and leaves, for any list of bytes and any numbers.
-use Rattle.std.specs.Prelude.{Bool, ◌&&◌, ◌||◌, not, cond, List, [], ◌∷◌, ◌++◌, ◌≡◌, ℕ, ◌+◌, ◌*◌, length, take, drop, eqb, ltb, leb}
+use Rattle.std.specs.Prelude.{Bool, ◌&&◌, ◌||◌, not, cond, List, [], ◌∷◌, ◌++◌, ◌≡◌, ℕ, ◌+◌, ◌*◌, length, take, drop}
+use Rattle.std.specs.Prelude.{eqb, ltb, leb}
 use Rattle.std.proofs.Math.Option.{Option}
 use Rattle.model.specs.declared.Answer.{Answer}
 use Rattle.model.specs.declared.Explanation.{Explanation}
@@ -11,7 +12,8 @@ use Rattle.model.specs.declared.Opened.TheVariants.{With, Refused}
 use Rattle.model.specs.Lists.{all_of, if_there, is_there, Bytes}
 use Rattle.model.specs.Sorted.{find_row}
 use Rattle.model.specs.Tree.{in_tree}
-use Rattle.model.specs.WhoAndWhat.{custodian, define_call, create_call, set_line_call, remove_line_call, needed_position, positions_of, has}
+use Rattle.model.specs.WhoAndWhat.{custodian, define_call, create_call, set_line_call, remove_line_call}
+use Rattle.model.specs.WhoAndWhat.{needed_position, positions_of, has}
 use Rattle.model.specs.Image.{shortest_image, longest_image, Tables, layout_of, tables_by, tables, encode}
 use Rattle.model.specs.Image.{width_of, width_in, size, line_format, grant_key, line_key, parent_in, subject_used}
 use Rattle.model.specs.Image.{item_in, item_used, is_list, is_locked, none_or_list, none_or_item, flags_fit, kind_fits}
@@ -214,7 +216,8 @@ counting n old new = record { answer = answered n 0; counts = cond (eqb n 0) new
 
 unfoldable pub count_holders : List ℕ → ℕ → List ℕ → Counting
 count_holders img i old =
-    counting (first_no (image_questions img ++ holders_questions (tables img) i (length old))) old (holder_counts (tables img) i (length old))
+    counting (first_no (image_questions img ++ holders_questions (tables img) i (length old))) old
+    (holder_counts (tables img) i (length old))
 
 -- The outcome of a call that writes: its answer, and the image afterwards. A refused call changes no byte.
 pub record Outcome : Type 0 where

@@ -10,7 +10,8 @@ use Rattle.model.specs.Image.{encode}
 use Rattle.model.specs.Computing.{computing}
 use Rattle.model.specs.Sample.{workshop, twelve, right, reasons, explained_case, further_cases, further_reasons}
 use Rattle.model.specs.Sample.{counted_case, count_cases, count_outcomes, without_owner_line, owner_cases, owner_reasons}
-use Rattle.model.specs.Sample.{named_right, editor_searches, climbed_right, steps_cases, lower_owner, lower_owner_cases, lower_owner_reasons}
+use Rattle.model.specs.Sample.{named_right, editor_searches, climbed_right, steps_cases, lower_owner}
+use Rattle.model.specs.Sample.{lower_owner_cases, lower_owner_reasons}
 use Rattle.model.specs.Sample.{hall, hall_cases, hall_reasons, moved_hall, moved_cases, moved_reasons}
 use Rattle.model.specs.Sample.{fifth_items, checked_with, fifth_checks, creations, created, creation_answers}
 

@@ -28,7 +28,8 @@ module _ (t : Tables) (s : ℕ) (g : Option GrantRow) (a b r : ℕ) where
   unfolding operation_under
   operations_joined own lent both = rw (← own, ← lent) both
 
-  pub permissions_cut : (i : ℕ) → a ≡ operation_under t s g → r ≡ a ∩ shared_up t.items (object_under t s g) i → r ≡ permission_under t s g i
+  pub permissions_cut : (i : ℕ) → a ≡ operation_under t s g → r ≡ a ∩ shared_up t.items (object_under t s g) i
+      → r ≡ permission_under t s g i
   permissions_cut i operations shared = shared ∙ rw operations (permission_cut t s g i)
 
 -- the object set, on an item whose row is handed in, under a grant or without one

@@ -1,6 +1,8 @@
 -- Texts put into bytes from their end: what each leaves, and that a text put in front of another gives both texts.
-use Rattle.std.specs.Prelude.{List, [], ◌∷◌, ◌++◌, ◌≡◌, refl, ℕ, suc, ◌+◌, ◌-◌, ◌<◌, ◌≤◌, ◌/◌, ◌%◌, ◌^◌, length, get_or, set, take, drop}
-use Rattle.std.proofs.Common.{append_assoc, append-nil, sym, ap, ◌∙◌, arith, length-append, length-drop, length-set, take-append-drop, take-take, length-take-le, drop_at, drop-cons}
+use Rattle.std.specs.Prelude.{List, [], ◌∷◌, ◌++◌, ◌≡◌, refl, ℕ, suc, ◌+◌, ◌-◌, ◌<◌, ◌≤◌, ◌/◌, ◌%◌, ◌^◌, length}
+use Rattle.std.specs.Prelude.{get_or, set, take, drop}
+use Rattle.std.proofs.Common.{append_assoc, append-nil, sym, ap, ◌∙◌, arith, length-append, length-drop, length-set}
+use Rattle.std.proofs.Common.{take-append-drop, take-take, length-take-le, drop_at, drop-cons}
 use Rattle.std.proofs.lemmas.List.{set_split, take-append-le}
 use Rattle.std.proofs.Math.Seq.{drop-length}
 use Rattle.reporting.specs.Report.{digit, digits_of, decimal}
@@ -116,7 +118,9 @@ module _ (p : List ℕ) (end n d : ℕ) (is : d ≡ digit (n % 10)) (q : List �
     (q' : List ℕ) (r' rest : ℕ) (none : rest ≤ 0) (a : Spelt q r (n / 10) q' r' rest) where
   pub number_put : Put p end (decimal n) q' r'
   unfolding decimal
-  number_put = put_more p end (digit (n % 10) ∷ []) q r (digits_of (n / 10)) q' r' (rw is at last) (spelt_all q r (n / 10) q' r' rest none a)
+  number_put =
+      put_more p end (digit (n % 10) ∷ []) q r (digits_of (n / 10)) q' r' (rw is at last)
+      (spelt_all q r (n / 10) q' r' rest none a)
 
   pub number_short : end ≤ r' + 20
   number_short = omega (arith, last.starts, (spelt_all q r (n / 10) q' r' rest none a).starts, a.few)

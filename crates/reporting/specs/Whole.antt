@@ -5,7 +5,8 @@ use Rattle.std.proofs.Common.{⊎_elim, ◌∙◌, eq-zero-or-pos, add-zero, suc
 use Rattle.std.specs.Prelude.{◌≡◌, length}
 use Rattle.std.proofs.Math.Path.{refl, sym, ap}
 use Prim.Native.Nat.{ℕ, zero, suc, ◌+◌, ◌-◌, ◌*◌, ◌/◌, ◌%◌, ◌<◌, ◌≤◌}
-use Rattle.std.proofs.Math.Nat.{zero-add, zero-mul, suc-mul, mul-suc, add-mul-div_left, add-mul-mod_self_left, div-eq_of_lt, mod-eq_of_lt}
+use Rattle.std.proofs.Math.Nat.{zero-add, zero-mul, suc-mul, mul-suc, add-mul-div_left, add-mul-mod_self_left}
+use Rattle.std.proofs.Math.Nat.{div-eq_of_lt, mod-eq_of_lt}
 use native.Mathlib.Omega.{arith}
 use Rattle.model.specs.Image.{Tables, tables}
 use Rattle.model.specs.Permission.{permission_set}

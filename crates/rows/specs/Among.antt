@@ -3,7 +3,8 @@ use mathlib.Core.List.{List, []}
 use Rattle.std.proofs.Math.Logic.{inl, inr, ⊎_elim}
 use Rattle.std.specs.Prelude.{◌≡◌, get_or, take, replicate}
 use Rattle.std.proofs.Math.Path.{sym}
-use Rattle.std.proofs.Common.{ap, ◌∙◌, le-div_iff_mul-le, div-lt_iff_lt-mul, mul-le-mul_right, lt-ltb, le-ltb, length-take, take-append-drop, drop_of_length-le, take-add, drop_at, drop-drop}
+use Rattle.std.proofs.Common.{ap, ◌∙◌, le-div_iff_mul-le, div-lt_iff_lt-mul, mul-le-mul_right, lt-ltb, le-ltb}
+use Rattle.std.proofs.Common.{length-take, take-append-drop, drop_of_length-le, take-add, drop_at, drop-drop}
 use Prim.Native.Nat.{ℕ, suc, ◌+◌, ◌-◌, ◌*◌, ◌/◌, ◌<◌, ◌≤◌}
 use Rattle.std.proofs.Math.Nat.{le_of_eq, suc-mul, add-sub_cancel_left}
 use native.Mathlib.Omega.{arith}

@@ -1,6 +1,7 @@
 -- Writing a row field by field gives the same bytes as writing it at once. This holds for any widths of the fields.
 use Rattle.std.specs.Prelude.{List, [], ◌∷◌, ◌++◌, ◌≡◌, ℕ, ◌+◌, ◌-◌, ◌<◌, ◌≤◌, length, take, drop}
-use Rattle.std.proofs.Common.{append_assoc, ⊎_elim, sym, ap, ◌∙◌, arith, le-leb, length-append, length-drop, length-take-le, take_at, drop_at, drop-drop}
+use Rattle.std.proofs.Common.{append_assoc, ⊎_elim, sym, ap, ◌∙◌, arith, le-leb, length-append, length-drop}
+use Rattle.std.proofs.Common.{length-take-le, take_at, drop_at, drop-drop}
 use Rattle.std.proofs.lemmas.Bool.{lt-leb}
 use Rattle.std.proofs.Math.Seq.{paste-zero}
 use Rattle.model.specs.Lists.{total}

@@ -1,5 +1,6 @@
 -- Rows of any table, as the code reads them.
-use Rattle.std.specs.Prelude.{◌&&◌, cond, ◌⊎◌, ◌≡◌, refl, ℕ, zero, suc, ◌+◌, ◌-◌, ◌*◌, ◌<◌, ◌≤◌, leb, ltb, length, get_or, take, drop, replicate}
+use Rattle.std.specs.Prelude.{◌&&◌, cond, ◌⊎◌, ◌≡◌, refl, ℕ, zero, suc, ◌+◌, ◌-◌, ◌*◌, ◌<◌, ◌≤◌, leb, ltb, length}
+use Rattle.std.specs.Prelude.{get_or, take, drop, replicate}
 use mathlib.Core.List.{List, [], ◌∷◌, ◌++◌}
 use Rattle.std.proofs.Common.{inl, inr, ◌∙◌, mul-le-mul_left, length-append, length-drop, take-append-drop, length-take-le}
 use Rattle.std.proofs.Math.Logic.{⊎_elim}

@@ -1,6 +1,8 @@
 -- The laws of `Splices` for rows: a table whose block holds the rows xs and has the capacity cap.
-use Rattle.std.specs.Prelude.{◌≡◌, ℕ, suc, ◌+◌, ◌-◌, ◌*◌, ◌<◌, ◌≤◌, List, [], ◌∷◌, ◌++◌, length, take, drop, replicate, slice_index_or, refl}
-use Rattle.std.proofs.Common.{append_assoc, sym, ap, ap₂, ◌∙◌, suc-mul, mul-le-mul_right, add-one, arith, length-append, length-drop, take-append-drop, length-take-le, drop-cons}
+use Rattle.std.specs.Prelude.{◌≡◌, ℕ, suc, ◌+◌, ◌-◌, ◌*◌, ◌<◌, ◌≤◌, List, [], ◌∷◌, ◌++◌, length, take, drop}
+use Rattle.std.specs.Prelude.{replicate, slice_index_or, refl}
+use Rattle.std.proofs.Common.{append_assoc, sym, ap, ap₂, ◌∙◌, suc-mul, mul-le-mul_right, add-one, arith}
+use Rattle.std.proofs.Common.{length-append, length-drop, take-append-drop, length-take-le, drop-cons}
 use Rattle.std.proofs.lemmas.List.{length-replicate, replicate-append-replicate}
 use Rattle.std.specs.List.{AllByRecursion}
 use Rattle.model.specs.Image.{Format, Block, size, row_in_bytes, joined}
@@ -16,7 +18,8 @@ module _ {A : Type 0} (f : Format A) (law : Lawful f) where
   joined_append (y ∷ ys) zs = rw (joined_append ys zs, append_assoc (row_in_bytes f y) (joined f ys) (joined f zs))
 
   -- the bytes of rows with x among them, and the bytes q behind them
-  joined_mid : (ys zs : List A) (x : A) (q : List ℕ) → joined f (ys ++ x ∷ zs) ++ q ≡ joined f ys ++ (row_in_bytes f x ++ (joined f zs ++ q))
+  joined_mid : (ys zs : List A) (x : A) (q : List ℕ)
+      → joined f (ys ++ x ∷ zs) ++ q ≡ joined f ys ++ (row_in_bytes f x ++ (joined f zs ++ q))
   joined_mid ys zs x q =
       rw (
         joined_append ys (x ∷ zs),
@@ -116,7 +119,8 @@ module _ {A : Type 0} (f : Format A) (law : Lawful f) where
         → put_bytes (holding front back extent n (table_bytes n (ys ++ y ∷ zs))) (row_start (length ys)) (row_in_bytes f x)
         ≡ holding front back extent n (table_bytes n (ys ++ x ∷ zs))
     over ys zs x y n =
-        ap (λ (s : List ℕ). put_bytes (holding front back extent n s) (row_start (length ys)) (row_in_bytes f x)) (joined_mid ys zs y (gap n))
+        ap (λ (s : List ℕ). put_bytes (holding front back extent n s) (row_start (length ys)) (row_in_bytes f x))
+        (joined_mid ys zs y (gap n))
         ∙ ap (λ (a : ℕ).
         put_bytes (holding front back extent n (joined f ys ++ (row_in_bytes f y ++ (joined f zs ++ gap n)))) a (row_in_bytes f x))
         (sym (row_here ys))
@@ -167,7 +171,8 @@ module _ {A : Type 0} (f : Format A) (law : Lawful f) where
           (row_start a) (row_start (length xs)) (size f))
           split (sym here)
           ∙ ap (λ (m : ℕ).
-          row_taken (holding front back extent m (table_bytes m (take k xs ++ slice_index_or xs k d ∷ drop (suc k) xs))) (counter_of front back) m
+          row_taken (holding front back extent m (table_bytes m (take k xs ++ slice_index_or xs k d ∷ drop (suc k) xs)))
+          (counter_of front back) m
           (row_start (length (take k xs))) (row_start m) (size f))
           count_is
           ∙ taken (take k xs) (drop (suc k) xs) (slice_index_or xs k d) (length xs - 1) all less

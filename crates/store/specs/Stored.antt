@@ -12,7 +12,8 @@ use Rattle.std.specs.List.{AllByRecursion}
 use Rattle.model.specs.Lists.{is_there}
 use Rattle.model.specs.Sorted.{ascending, find_row, insertion_index, put, cut}
 use Rattle.model.specs.Image.{Tables, Format, Block, width_of, width_in, layout_of, tables, rows_in}
-use Rattle.model.specs.Image.{subject_format, grant_format, line_format, item_format, no_item, item_used, blocks, block_of, encode}
+use Rattle.model.specs.Image.{subject_format, grant_format, line_format, item_format, no_item, item_used, blocks}
+use Rattle.model.specs.Image.{block_of, encode}
 use Rattle.model.specs.Calls.{with_subjects, with_grants, with_lines, with_items, set_item}
 use Rattle.model.specs.Questions.{Accepted}
 use Rattle.laws.specs.WellFormed.{Fitting, fitting}

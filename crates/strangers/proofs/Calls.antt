@@ -17,7 +17,8 @@ use Rattle.model.specs.WhoAndWhat.{custodian, edit_list, has}
 use Rattle.model.specs.Image.{Tables, grant_row, line_row, item_row, subject_row, grant_key, line_key}
 use Rattle.model.specs.Image.{subject_in, item_in, item_used, is_locked, with_list, with_owner}
 use Rattle.model.specs.Permission.{line_in, grant_of, permission_set}
-use Rattle.model.specs.Calls.{Change, caller_of, with_subjects, with_grants, with_lines, with_items, set_item, new_privileges, after}
+use Rattle.model.specs.Calls.{Change, caller_of, with_subjects, with_grants, with_lines, with_items, set_item}
+use Rattle.model.specs.Calls.{new_privileges, after}
 use Rattle.model.specs.Calls.Change.{define_subject, set_grant, remove_grant, set_line, remove_line, create_item, bind, hand_over}
 use Rattle.model.specs.Questions.{questions, given_by, may_bind}
 use Rattle.laws.specs.Tests.{and_l, or_cases}

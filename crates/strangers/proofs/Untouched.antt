@@ -61,7 +61,8 @@ module _ (t : Tables) (document : ℕ) where
         lines_same = λ a f k s. refl;
         grants_given =
             All-map grant_given t.grants
-            (All-both (λ g. T (grant_rules t.subjects g)) (λ g. (s : ℕ) → AllByRecursion (outside_for s) t.grants → outside_for s g) t.grants
+            (All-both (λ g. T (grant_rules t.subjects g))
+            (λ g. (s : ℕ) → AllByRecursion (outside_for s) t.grants → outside_for s g) t.grants
             (grant_rules_lem t well.grants_hold_lem)
             (All-self outside_for t.grants));
       }
@@ -119,7 +120,8 @@ module _ (t : Tables) (document : ℕ) where
       allowed_inside s present allowed =
           let allowed_then : T (has edit_list (lines_part t s a)) = rw (part_same s a present (list followed)) at allowed in search may_edit
 
-      lent_none : (o : Option GrantRow) (r : ℕ) → IfSome (λ g. Given g × (grant_key g ≡ c ∷ r ∷ [])) o → ¬ T (has edit_list (lent_part u o a))
+      lent_none : (o : Option GrantRow) (r : ℕ) → IfSome (λ g. Given g × (grant_key g ≡ c ∷ r ∷ [])) o
+          → ¬ T (has edit_list (lent_part u o a))
       unfolding has
       lent_none none r p allowed = allowed
       lent_none (some g) r p allowed = go (in_tree (parent_in u.subjects) g.domain.0 (owner_of u a)) allowed

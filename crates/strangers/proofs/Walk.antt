@@ -205,7 +205,9 @@ module _ (t : Tables) (document : ℕ) where
     | inl goes_on ↦
         let rest : List ℕ = folders_within n up (up e) in
         rw goes_on (elim (or_cases (eqb d e) (among d (up e ∷ rest)) (rw goes_on at h)) [
-          | inl same ↦ or_l (eqb (up d) (up e)) (among (up d) rest) (true_T (eqb (up d) (up e)) (eq-eqb (up d) (up e) (ap up (eqb→eq d e same))))
+          | inl same ↦
+              or_l (eqb (up d) (up e)) (among (up d) rest)
+              (true_T (eqb (up d) (up e)) (eq-eqb (up d) (up e) (ap up (eqb→eq d e same))))
           | inr later ↦
               or_r (eqb (up d) (up e)) (among (up d) rest)
               (next_among n (up e) (omega (arith, leads_lower e (up e) (true_T (leads_up e (up e)) goes_on))) d later leads)
@@ -239,4 +241,5 @@ module _ (t : Tables) (document : ℕ) where
 
   pub followed_walked : (a : ℕ) → Followed t document a → T (among a (followed_lists t document))
   followed_walked _ (its_list {d} s some_list) = list_of_start_met (starts_of t document) starts_only d (start_among s) some_list
-  followed_walked _ (list_of_followed {a} f some_list) = list_of_list_met (starts_of t document) starts_only a (followed_walked a f) some_list
+  followed_walked _ (list_of_followed {a} f some_list) =
+      list_of_list_met (starts_of t document) starts_only a (followed_walked a f) some_list

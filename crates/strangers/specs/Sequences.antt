@@ -81,7 +81,9 @@ module _ (t : Tables) (document : ℕ) where
 -- of that grant is not the caller of any call in `added`.
 pub data Claim (t : Tables) (asker : ℕ) (added : List Change) : ℕ → Type 0 where
   no_role : Claim t asker added 0
-  granted : {r : ℕ} (g : GrantRow) → grant_of t asker r ≡ some g → AllByRecursion (λ c. caller_of c ≢ g.grantor.0) added → Claim t asker added r
+  granted : {r : ℕ} (g : GrantRow) → grant_of t asker r ≡ some g
+      → AllByRecursion (λ c. caller_of c ≢ g.grantor.0) added
+      → Claim t asker added r
 
 -- The conditions on the second sequence, the asker, its role and the document. Each is read from the image at the stop.
 pub record Covered (stop : List ℕ) (second : List Step) (asker role document : ℕ) : Type 0 where

@@ -7,11 +7,17 @@ use Rattle.changing_lines.specs.Lines.{line_set_lem}
 use Rattle.changing_lines.proofs.set_line.Goals as goal
 
 pub returns-in-Refused : goal.returns-in-Refused
-returns-in-Refused c = let both = also _ _ _ _ (search act_image) (λ h. search (kept, refused_not)) in record { value = both.0; image_after = both.1 }
+returns-in-Refused c =
+    let both = also _ _ _ _ (search act_image) (λ h. search (kept, refused_not)) in
+    record { value = both.0; image_after = both.1 }
 
 pub returns-in-Refused-asked : goal.returns-in-Refused-asked
-returns-in-Refused-asked c = let both = also _ _ _ _ (search (act_no, store_number, store_not)) (λ h. search (kept, store_not)) in record { value = both.0; image_after = both.1 }
+returns-in-Refused-asked c =
+    let both = also _ _ _ _ (search (act_no, store_number, store_not)) (λ h. search (kept, store_not)) in
+    record { value = both.0; image_after = both.1 }
 
 pub returns-in-At : goal.returns-in-At
 unfolding change_result
-returns-in-At c = let both = also _ _ _ _ (search (act_passed, store_passed)) (λ h. search line_set_lem) in record { value = both.0; image_after = both.1 }
+returns-in-At c =
+    let both = also _ _ _ _ (search (act_passed, store_passed)) (λ h. search line_set_lem) in
+    record { value = both.0; image_after = both.1 }

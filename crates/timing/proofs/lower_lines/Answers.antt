@@ -20,7 +20,11 @@ overflow_add-n c =
     record { fits = omega (arith, used_fits) }
 
 pub loop-n-preserved : goal.loop-n-preserved
-loop-n-preserved c = elim c.if-line_before.branch [ then-line_before w ↦ search (counted_lower, line_read) | else-line_before w ↦ search (counted_other, line_read) ]
+loop-n-preserved c =
+    elim c.if-line_before.branch [
+      | then-line_before w ↦ search (counted_lower, line_read)
+      | else-line_before w ↦ search (counted_other, line_read)
+    ]
 
 pub returns : goal.returns
 unfolding tables_by

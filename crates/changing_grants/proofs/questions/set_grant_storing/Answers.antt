@@ -13,17 +13,22 @@ returns-then-number-ne0 c = let both = store_also _ _ _ (search (store_handed_on
 
 pub returns-then-not-in_tree : goal.returns-then-not-in_tree
 unfolding questions
-returns-then-not-in_tree c = let both = store_also _ _ _ (search (store_refused, named_yes, asked_no)) in record { value = both.0; number = both.1 }
+returns-then-not-in_tree c =
+    let both = store_also _ _ _ (search (store_refused, named_yes, asked_no)) in
+    record { value = both.0; number = both.1 }
 
 pub returns-then-not-may_set : goal.returns-then-not-may_set
 unfolding questions
-returns-then-not-may_set c = let both = store_also _ _ _ (search (store_refused, named_yes, asked_yes, asked_no, set_found)) in record { value = both.0; number = both.1 }
+returns-then-not-may_set c =
+    let both = store_also _ _ _ (search (store_refused, named_yes, asked_yes, asked_no, set_found)) in
+    record { value = both.0; number = both.1 }
 
 pub returns-then-not-has_row_for : goal.returns-then-not-has_row_for
 unfolding questions tables_by
 returns-then-not-has_row_for c = let both = (let stored_at =
     grant_row_index _ _ c.search_grant-found.result _ c.search_grant-found.ensures c.row_index-index.ensures in
-    store_also _ _ _ (search (store_refused, named_yes, asked_yes, asked_no, set_found, index_found, stored_at) depth 6)) in record { value = both.0; number = both.1 }
+    store_also _ _ _ (search (store_refused, named_yes, asked_yes, asked_no, set_found, index_found, stored_at) depth 6)) in
+    record { value = both.0; number = both.1 }
 
 pub returns : goal.returns
 unfolding questions tables_by

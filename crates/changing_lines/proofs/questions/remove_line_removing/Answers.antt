@@ -11,12 +11,18 @@ returns-then-number-ne0 c = let both = remove_also _ _ _ (search (remove_handed_
 
 pub returns-then-not-has : goal.returns-then-not-has
 unfolding questions
-returns-then-not-has c = let both = remove_also _ _ _ (search (remove_refused, named_yes, right_no)) in record { value = both.0; number = both.1 }
+returns-then-not-has c =
+    let both = remove_also _ _ _ (search (remove_refused, named_yes, right_no)) in
+    record { value = both.0; number = both.1 }
 
 pub returns-in-At : goal.returns-in-At
 unfolding questions
-returns-in-At c = let both = remove_also _ _ _ (search (remove_at, named_yes, right_yes, tested_yes, asked_all, line_is_there, line_index)) in record { value = both.0; number = both.1 }
+returns-in-At c =
+    let both = remove_also _ _ _ (search (remove_at, named_yes, right_yes, tested_yes, asked_all, line_is_there, line_index)) in
+    record { value = both.0; number = both.1 }
 
 pub returns-in-Absent : goal.returns-in-Absent
 unfolding questions
-returns-in-Absent c = let both = remove_also _ _ _ (search (remove_refused, named_yes, right_yes, tested_no, line_missing)) in record { value = both.0; number = both.1 }
+returns-in-Absent c =
+    let both = remove_also _ _ _ (search (remove_refused, named_yes, right_yes, tested_no, line_missing)) in
+    record { value = both.0; number = both.1 }

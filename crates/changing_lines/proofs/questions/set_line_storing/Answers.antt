@@ -12,16 +12,20 @@ returns-then-number-ne0 c = let both = store_also _ _ _ (search (store_handed_on
 
 pub returns-then-not-has : goal.returns-then-not-has
 unfolding questions
-returns-then-not-has c = let both = store_also _ _ _ (search (store_refused, named_yes, right_no)) in record { value = both.0; number = both.1 }
+returns-then-not-has c =
+    let both = store_also _ _ _ (search (store_refused, named_yes, right_no)) in
+    record { value = both.0; number = both.1 }
 
 pub returns-then-not-has_row_for : goal.returns-then-not-has_row_for
 unfolding questions tables_by
 returns-then-not-has_row_for c = let both = (let stored_at =
     line_row_index _ _ c.search_line-found.result _ c.search_line-found.ensures c.row_index-index.ensures in
-    store_also _ _ _ (search (store_refused, named_yes, right_yes, asked_no, index_found, stored_at))) in record { value = both.0; number = both.1 }
+    store_also _ _ _ (search (store_refused, named_yes, right_yes, asked_no, index_found, stored_at))) in
+    record { value = both.0; number = both.1 }
 
 pub returns : goal.returns
 unfolding questions tables_by
 returns c = let both = (let stored_at =
     line_row_index _ _ c.search_line-found.result _ c.search_line-found.ensures c.row_index-index.ensures in
-    store_also _ _ _ (search (store_at, named_yes, right_yes, asked_yes, asked_all, index_found, stored_at))) in record { value = both.0; number = both.1 }
+    store_also _ _ _ (search (store_at, named_yes, right_yes, asked_yes, asked_all, index_found, stored_at))) in
+    record { value = both.0; number = both.1 }
