@@ -1,6 +1,6 @@
 -- The digits of a number. Any number of steps that is enough gives all digits. The digits of a number are those of its tenth
 -- and then its last digit. A number below 10 ^ k has at most k digits.
-use Rattle.std.specs.Prelude.{List, [], ◌∷◌, ◌++◌, ◌≡◌, refl, ℕ, zero, suc, ◌+◌, ◌/◌, ◌%◌, ◌^◌, ◌<◌, ◌≤◌, length}
+use Rattle.std.specs.Prelude.{List, [], ◌∷◌, ◌++◌, ◌≡◌, refl, ℕ, zero, suc, ◌/◌, ◌%◌, ◌^◌, ◌<◌, ◌≤◌, length}
 use Rattle.std.proofs.Common.{⊎_elim, sym, ap, ◌∙◌, eq-zero-or-pos, div-lt_iff_lt-mul, pow-suc, arith, ne_eqb, length-append}
 use Rattle.std.proofs.Math.Nat.{div-lt_self}
 use Rattle.reporting.specs.Report.{digit, digits_within, digits_of}

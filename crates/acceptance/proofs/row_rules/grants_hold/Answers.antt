@@ -2,7 +2,7 @@ use native.Mathlib.Omega.{arith}
 use Rattle.model.specs.Image.{tables_by, grants_hold}
 use Rattle.acceptance.specs.Passes.{ascends_none, ascends_broken, ascends_other, ascends_next, ascends_all}
 use Rattle.acceptance.specs.Rules.{grant_follows}
-use Rattle.std.proofs.lemmas.Bool.{not_from_true, not_from_false}
+use Rattle.std.proofs.lemmas.Bool.{not_from_true}
 use Rattle.acceptance.proofs.row_rules.grants_hold.Goals as goal
 
 pub loop-n-init : goal.loop-n-init

@@ -1,6 +1,5 @@
 use Prim.Native.Nat.{◌-◌}
-use borrow.Author.Rules.{rules}
-use Rattle.model.specs.Image.{tables_by, width_of, grant_format, no_grant, grant_rules, grant_key, grants_hold}
+use Rattle.model.specs.Image.{tables_by, width_of, grant_format, no_grant, grant_rules, grant_key}
 use Rattle.acceptance.specs.Passes.{Ascends}
 use Rattle.acceptance.proofs.row_rules.grants_hold.Given as goal
 

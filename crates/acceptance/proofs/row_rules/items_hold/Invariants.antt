@@ -1,6 +1,5 @@
 use Prim.Native.Nat.{suc, ◌-◌}
-use borrow.Author.Rules.{rules}
-use Rattle.model.specs.Image.{tables_by, item_format, no_item, item_rules, items_hold}
+use Rattle.model.specs.Image.{tables_by, item_format, no_item, item_rules}
 use Rattle.acceptance.specs.Passes.{Upto}
 use Rattle.acceptance.proofs.row_rules.items_hold.Given as goal
 

@@ -1,6 +1,5 @@
 use Prim.Native.Nat.{◌-◌}
-use borrow.Author.Rules.{rules}
-use Rattle.model.specs.Image.{tables_by, width_of, line_format, no_line, line_rules, line_key, lines_hold}
+use Rattle.model.specs.Image.{tables_by, width_of, line_format, no_line, line_rules, line_key}
 use Rattle.acceptance.specs.Passes.{Ascends}
 use Rattle.acceptance.proofs.row_rules.lines_hold.Given as goal
 

@@ -1,6 +1,5 @@
 use Prim.Native.Nat.{◌-◌}
-use borrow.Author.Rules.{rules}
-use Rattle.model.specs.Image.{tables_by, width_of, subject_format, no_subject, subject_rules, subjects_hold}
+use Rattle.model.specs.Image.{tables_by, width_of, subject_format, no_subject, subject_rules}
 use Rattle.acceptance.specs.Passes.{Upto}
 use Rattle.acceptance.proofs.row_rules.subjects_hold.Given as goal
 

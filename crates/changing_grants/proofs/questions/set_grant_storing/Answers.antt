@@ -4,7 +4,7 @@ use Rattle.laws.specs.Answers.{asked_no, asked_yes, asked_all}
 use Rattle.search.specs.AnswerLaws.{grant_row_index, index_found}
 use Rattle.store.specs.Calls.{store_also, store_refused, store_handed_on, store_at}
 use Rattle.changing_grants.specs.Questions.{named_no, named_yes, set_found}
-use Rattle.std.proofs.lemmas.Bool.{not_from_true, not_from_false}
+use Rattle.std.proofs.lemmas.Bool.{not_from_true}
 use Rattle.changing_grants.proofs.questions.set_grant_storing.Goals as goal
 
 pub returns-then-number-ne0 : goal.returns-then-number-ne0
