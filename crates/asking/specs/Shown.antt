@@ -22,7 +22,7 @@ use Rattle.model.specs.Calls.{rows_of, rows_before, ask_result}
 use Rattle.model.specs.Calls.Ask.{list_count}
 use Rattle.model.specs.Questions.{answer, check, opened, ask, ask_questions, image_questions, shows, list_start}
 use Rattle.model.specs.Questions.{list_extent, list_slice}
-use Rattle.laws.specs.Tests.{and_l, and_r, All-map}
+use Rattle.laws.specs.Tests.{and_l, and_r, all_map}
 use Rattle.laws.specs.Kept.{line_rules_lem, lines_ascending}
 use Rattle.laws.specs.Answers.{asked_no, asked_yes, asked_all, image_passed}
 use Rattle.laws.specs.Sorted.{index_le}
@@ -53,7 +53,7 @@ lines_held img ok = (image_passed img ok).1.1.1.1.0
 
 kinds_fit : (img : List ℕ) → check img ≡ 0 → AllByRecursion (λ l. l.kind ≤ everyone_kind) (tables img).lines
 kinds_fit img ok =
-    All-map
+    all_map
     (λ l rules.
     let fits : T (kind_fits l.kind l.subject.0) =
     and_l (kind_fits l.kind l.subject.0) (subject_used (tables img).subjects l.subject.0 && true)

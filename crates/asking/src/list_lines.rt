@@ -20,7 +20,7 @@ pub fn list_count(image: &[u8], list: Item) -> Answer
 
 // The rows of a list, as the slice of the lent image that holds them. Where the call is refused or the list has no rows,
 // it is the empty slice at offset 0.
-// The `ptr` of a reference is a pair: the block of memory that it points into, and the byte in that block. The slice's
+// The `ref_ptr` of a reference is a pair: the block of memory that it points into, and the byte in that block. The slice's
 // block is the image's, and its byte is the image's byte plus `list_start`. Equal bytes alone would not say which slice of
 // the image it is.
 pub fn lines_of<'a>(image: &'a [u8], list: Item) -> &'a [u8]

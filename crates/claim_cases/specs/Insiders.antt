@@ -9,7 +9,7 @@ use Rattle.model.specs.Lists.{every}
 use Rattle.model.specs.WhoAndWhat.{custodian, edit_list, has}
 use Rattle.model.specs.Image.{Tables, privileges_in}
 use Rattle.model.specs.Permission.{lines_part, applied_folder, leads_up}
-use Rattle.laws.specs.Tests.{T_true, true_T, and_i, and_l, and_r, or_l, or_r, or_cases, every_All, All-map, All-left, All-right}
+use Rattle.laws.specs.Tests.{T_true, true_T, and_i, and_l, and_r, or_l, or_r, or_cases, every_all, all_map, all_left, all_right}
 use Rattle.strangers.specs.Sequences.{list_of, owner_of, Start, Followed, Insider}
 use Rattle.strangers.specs.Sequences.Start.{the_document, its_folder}
 use Rattle.strangers.specs.Sequences.Followed.{its_list, list_of_followed}
@@ -238,9 +238,9 @@ module _ (left_out : Clause) (t : Tables) (document : ℕ) where
   inside_fails p (may_edit {a} {s} f allowed) c =
       fails Clause.editor_inside (edits_list s) (search (and_l, and_r)) c.0
       (and_i (counts_as_editor (same_clause left_out Clause.editor_without_operation) s) (edits_some s)
-      (editor_counts s (All-left (λ c. left_out ≢ c) (clauses_of_editor t s) (clauses_of_way f) c.1))
+      (editor_counts s (all_left (λ c. left_out ≢ c) (clauses_of_editor t s) (clauses_of_way f) c.1))
       (some_of_lem (λ b. has edit_list (lines_part t s b)) lists a
-      (followed_in f (All-right (λ c. left_out ≢ c) (clauses_of_editor t s) (clauses_of_way f) c.1))
+      (followed_in f (all_right (λ c. left_out ≢ c) (clauses_of_editor t s) (clauses_of_way f) c.1))
       allowed))
 
   pub apart_is : (s : ℕ) → T (apart s) → ¬ InsiderBut left_out t document s
@@ -250,7 +250,7 @@ module _ (left_out : Clause) (t : Tables) (document : ℕ) where
       → T (roles_apart s)
       → AllByRecursion (λ g. g.receiver.0 ≡ s → ¬ InsiderBut left_out t document g.grantor.0) t.grants
   roles_apart_is s p =
-      All-map grant t.grants (every_All (λ g. not (eqb g.receiver.0 s) || apart g.grantor.0) t.grants p)
+      all_map grant t.grants (every_all (λ g. not (eqb g.receiver.0 s) || apart g.grantor.0) t.grants p)
     where
       grant : (g : GrantRow)
           → T (not (eqb g.receiver.0 s) || apart g.grantor.0)

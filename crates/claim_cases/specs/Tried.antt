@@ -11,7 +11,7 @@ use Rattle.model.specs.Image.{Tables, tables, encode, subject_used, item_used}
 use Rattle.model.specs.Permission.{grant_of, permission_set}
 use Rattle.model.specs.Calls.{Change, caller_of, numbers_of, sets_of, Handed}
 use Rattle.model.specs.Questions.{check, Accepted}
-use Rattle.laws.specs.Tests.{◌and◌, and_l, and_r, or_cases, every_All, All-map}
+use Rattle.laws.specs.Tests.{◌and◌, and_l, and_r, or_cases, every_all, all_map}
 use Rattle.strangers.specs.Sequences.{Step, run, writing}
 use Rattle.claim_cases.specs.Without.{Clause, same_clause, StrangerBut, ClaimBut, CoveredBut, Without}
 use Rattle.claim_cases.specs.Without.ClaimBut.{no_role, granted, not_granted}
@@ -110,8 +110,8 @@ module _ (left_out : Clause) where
       grant (some g) e h =
           granted g e
           (λ d.
-          All-map (λ c. unequal (caller_of c) g.grantor.0) added
-          (every_All (λ c. not (eqb (caller_of c) g.grantor.0)) added (unless d)))
+          all_map (λ c. unequal (caller_of c) g.grantor.0) added
+          (every_all (λ c. not (eqb (caller_of c) g.grantor.0)) added (unless d)))
         where
           unless : left_out ≢ Clause.grantor_silent → T (every (λ c. not (eqb (caller_of c) g.grantor.0)) added)
           unless = or_if_is (same_clause left_out Clause.grantor_silent) (every (λ c. not (eqb (caller_of c) g.grantor.0)) added) h
@@ -126,16 +126,16 @@ module _ (left_out : Clause) where
         document_there =
             or_if_is (same_clause left_out Clause.document_present) (item_used t.items x.document) (search (and_l, and_r));
         strangers_only =
-            All-map (λ c. stranger_is t x.document (caller_of c)) (writing x.second)
-            (every_All (λ c. stranger_but t x.document (caller_of c)) (writing x.second) (search (and_l, and_r)));
+            all_map (λ c. stranger_is t x.document (caller_of c)) (writing x.second)
+            (every_all (λ c. stranger_but t x.document (caller_of c)) (writing x.second) (search (and_l, and_r)));
         claimed = claim_is t x.asker (writing x.second) x.role (search (and_l, and_r));
       }
 
 all_small : (vs : List ℕ) → T (small vs) → AllByRecursion (λ v. v < 2 ^ 32) vs
-all_small vs p = All-map (λ v. ltb→lt v (2 ^ 32)) vs (every_All (λ v. ltb v (2 ^ 32)) vs p)
+all_small vs p = all_map (λ v. ltb→lt v (2 ^ 32)) vs (every_all (λ v. ltb v (2 ^ 32)) vs p)
 
 handed_is : (steps : List Step) → T (handed steps) → AllByRecursion Handed (writing steps)
-handed_is steps p = All-map of_call (writing steps) (every_All (λ c. small (numbers_of c) && small (sets_of c)) (writing steps) p)
+handed_is steps p = all_map of_call (writing steps) (every_all (λ c. small (numbers_of c) && small (sets_of c)) (writing steps) p)
   where
     of_call : (c : Change) → T (small (numbers_of c) && small (sets_of c)) → Handed c
     of_call c h =
@@ -147,7 +147,7 @@ module _ (x : Trial) (p : T (proper x)) where
   unfolding proper
   accepted_is =
       record {
-        bytes = All-map (λ b. ltb→lt b 256) (start_of x) (every_All (λ b. ltb b 256) (start_of x) (search (and_l, and_r)));
+        bytes = all_map (λ b. ltb→lt b 256) (start_of x) (every_all (λ b. ltb b 256) (start_of x) (search (and_l, and_r)));
         checked = eqb→eq (check (start_of x)) 0 (search (and_l, and_r));
       }
 

@@ -4,7 +4,7 @@ use Rattle.std.specs.List.{AllByRecursion}
 use Rattle.model.specs.WhoAndWhat.{edit_list, has}
 use Rattle.model.specs.Image.{Tables, tables, privileges_in}
 use Rattle.model.specs.Calls.{Change, caller_of}
-use Rattle.laws.specs.Tests.{All-map, All-append}
+use Rattle.laws.specs.Tests.{all_map, all_append}
 use Rattle.strangers.specs.Sequences.{Step, run, writing, Start, Followed, Insider, Stranger, Claim, Covered}
 use Rattle.strangers.specs.Sequences.Start.{the_document, its_folder}
 use Rattle.strangers.specs.Sequences.Followed.{its_list, list_of_followed}
@@ -50,7 +50,7 @@ counts (owns_document (its_folder s leads)) = (distinct nothing folder_owner_ins
 counts (owns_list f) = (distinct nothing list_owner_inside tt, way_counts f)
 counts {t} {document} {s} (may_edit f allowed) = (
   distinct nothing editor_inside tt,
-  All-append (λ c. nothing ≢ c) (clauses_of_editor t s) (clauses_of_way f) (editor_counts t s) (way_counts f),
+  all_append (λ c. nothing ≢ c) (clauses_of_editor t s) (clauses_of_way f) (editor_counts t s) (way_counts f),
 )
 
 stranger_whole : (t : Tables) (document s : ℕ) → StrangerBut nothing t document s → Stranger t document s
@@ -61,7 +61,7 @@ stranger_whole t document s x =
             present = x.outsider.present (distinct nothing caller_present tt);
             outside = λ i. x.outsider.outside record { insider = i; counts = counts i };
             holds_none =
-                All-map (λ g f e i. f e record { insider = i; counts = counts i }) t.grants
+                all_map (λ g f e i. f e record { insider = i; counts = counts i }) t.grants
                 (x.outsider.holds_none (distinct nothing no_role_of_insiders tt));
           };
     }
@@ -78,7 +78,7 @@ covered_whole stop second asker role document covered =
     record {
       asker_present = covered.asker_there (distinct nothing asker_present tt);
       document_present = covered.document_there (distinct nothing document_present tt);
-      strangers_only = All-map (λ c. stranger_whole (tables stop) document (caller_of c)) (writing second) covered.strangers_only;
+      strangers_only = all_map (λ c. stranger_whole (tables stop) document (caller_of c)) (writing second) covered.strangers_only;
       claimed = claim_whole (tables stop) asker (writing second) covered.claimed;
     }
 
@@ -89,7 +89,7 @@ stranger_back t document s x =
           record {
             present = λ d. x.outsider.present;
             outside = λ i. x.outsider.outside i.insider;
-            holds_none = λ d. All-map (λ g f e i. f e i.insider) t.grants x.outsider.holds_none;
+            holds_none = λ d. all_map (λ g f e i. f e i.insider) t.grants x.outsider.holds_none;
           };
     }
 
@@ -104,7 +104,7 @@ whole_covered stop second asker role document covered =
     record {
       asker_there = λ d. covered.asker_present;
       document_there = λ d. covered.document_present;
-      strangers_only = All-map (λ c. stranger_back (tables stop) document (caller_of c)) (writing second) covered.strangers_only;
+      strangers_only = all_map (λ c. stranger_back (tables stop) document (caller_of c)) (writing second) covered.strangers_only;
       claimed = claim_back (tables stop) asker (writing second) covered.claimed;
     }
 

@@ -18,7 +18,7 @@ use Rattle.model.specs.WhoAndWhat.{has}
 use Rattle.model.specs.Image.{Tables}
 use Rattle.model.specs.Permission.{permission_set}
 use Rattle.model.specs.Calls.{holders, holder_counts}
-use Rattle.laws.specs.Tests.{All-at}
+use Rattle.laws.specs.Tests.{all_at}
 use Rattle.laws.specs.Counts.{how_many_most, each_count, each_same, each_all, each_zero}
 use Rattle.laws.specs.Sets.{lowest_away}
 use Rattle.holding.specs.Found.{counted}
@@ -137,7 +137,7 @@ module _ (p : ℕ) (old : List ℕ) where
       pub added_fits : AllByRecursion (λ c. c + 1 < 2 ^ 32) old → Fits w32 (get_or cs n 0 + rest % 2)
       added_fits fit =
           let now : get_or cs n 0 ≡ get_or old n 0 = overwritten_next old (counted p old) n cs done.overwritten inside in
-          let one_fits : get_or old n 0 + 1 < 2 ^ 32 = All-at (λ c. c + 1 < 2 ^ 32) old 0 fit n within in
+          let one_fits : get_or old n 0 + 1 < 2 ^ 32 = all_at (λ c. c + 1 < 2 ^ 32) old 0 fit n within in
           let digit : rest % 2 < 2 = mod-lt rest (lit< tt) in
           omega arith
 

@@ -14,7 +14,7 @@ use Rattle.model.specs.declared.Table.{Table}
 use Rattle.std.specs.List.{AllByRecursion}
 use Rattle.model.specs.Lists.{Bytes, zeros}
 use Rattle.model.specs.Image.{Format, Block, size, rows_in, capacity, joined, block_of, header_of, body_of, laid_out, unused}
-use Rattle.laws.specs.Tests.{◌and◌, true_T, and_l, and_r, yes_all, all_yes, All-append}
+use Rattle.laws.specs.Tests.{◌and◌, true_T, and_l, and_r, yes_all, all_yes, all_append}
 use Rattle.laws.specs.WellFormed.{Fits, extents}
 use Rattle.laws.specs.Rows.{Lawful, rows_count, joined_length, joined_bytes, rows_there, rows_back}
 use Rattle.laws.specs.Fields.{bytes_drop}
@@ -54,7 +54,7 @@ module _ {A : Type 0} (f : Format A) where
   pub block_bytes : (cap : ℕ) (xs : List A) → Bytes (block_of f cap xs).bytes
   unfolding block_of
   block_bytes cap xs =
-      All-append (λ b. b < 256) (joined f xs) (replicate (cap * size f - length xs * size f) 0)
+      all_append (λ b. b < 256) (joined f xs) (replicate (cap * size f - length xs * size f) 0)
       (joined_bytes f xs) (zero_bytes (cap * size f - length xs * size f))
 
   -- What holds of the table t of an image if its bytes are the block of the rows xs.

@@ -8,7 +8,7 @@ use Rattle.std.proofs.lemmas.Bool.{lt-leb}
 use Rattle.std.proofs.Math.Arith.{mod-mul}
 use Rattle.model.specs.Lists.{Bytes, total}
 use Rattle.model.specs.Image.{value, bytes_of, field_at, fields_at, row_bytes}
-use Rattle.laws.specs.Tests.{le_or_lt, All-append}
+use Rattle.laws.specs.Tests.{le_or_lt, all_append}
 use Rattle.laws.specs.WellFormed.{Fit}
 
 -- A number and its bytes.
@@ -147,7 +147,7 @@ row_length (w ∷ ws) (v ∷ vs) e = rw (length-append, bytes_length w v, row_le
 pub row_bytes_lem : (ws vs : List ℕ) → Bytes (row_bytes ws vs)
 row_bytes_lem [] vs = tt
 row_bytes_lem (w ∷ ws) [] = tt
-row_bytes_lem (w ∷ ws) (v ∷ vs) = All-append (λ b. b < 256) (bytes_of w v) (row_bytes ws vs) (bytes_bytes w v) (row_bytes_lem ws vs)
+row_bytes_lem (w ∷ ws) (v ∷ vs) = all_append (λ b. b < 256) (bytes_of w v) (row_bytes ws vs) (bytes_bytes w v) (row_bytes_lem ws vs)
 
 field_front : (w : ℕ) (p r : List ℕ) → length p ≡ w → field_at w (p ++ r) 0 ≡ value p
 field_front w p r e =

@@ -26,9 +26,9 @@ use Rattle.model.specs.Calls.{Change, Handed, with_subjects, with_grants, with_l
 use Rattle.model.specs.Calls.Change.{define_subject, set_grant, remove_grant, set_line, remove_line, create_item, bind, hand_over}
 use Rattle.model.specs.Questions.{questions}
 use Rattle.laws.specs.Tests.{and_i, and_l, and_r, or_l, or_r, or_cases, two, eq_or_ne}
-use Rattle.laws.specs.Tests.{every_at, every_map, every_append, every_set, every_All}
-use Rattle.laws.specs.Tests.{All-every, All-map, All-both, All-append, All-set, All-at}
-use Rattle.laws.specs.Sorted.{All-put, All-cut, ascending_put, ascending_cut, put_fits, length_cut_le}
+use Rattle.laws.specs.Tests.{every_at, every_map, every_append, every_set, every_all}
+use Rattle.laws.specs.Tests.{all_every, all_map, all_both, all_append, all_set, all_at}
+use Rattle.laws.specs.Sorted.{all_put, all_cut, ascending_put, ascending_cut, put_fits, length_cut_le}
 use Rattle.laws.specs.Numbered.{privileges_same, old_tree_same, subject_used_lem, item_same, item_set, item_other}
 use Rattle.laws.specs.Sets.{both_within, within_everything}
 use Rattle.laws.specs.WellFormed.{Fits, WellFormed, Passed}
@@ -45,7 +45,7 @@ module _ {A : Type 0} (key : A → List ℕ) (Good : A → Type 0) (cap : ℕ) (
   rows_put r good free =
       record {
         within_capacity = put_fits key r rows cap old.sorted old.within_capacity free;
-        all_good = All-put key Good r rows good old.all_good;
+        all_good = all_put key Good r rows good old.all_good;
         sorted = ascending_put key r rows old.sorted;
       }
 
@@ -53,7 +53,7 @@ module _ {A : Type 0} (key : A → List ℕ) (Good : A → Type 0) (cap : ℕ) (
   rows_cut k =
       record {
         within_capacity = omega (arith, length_cut_le key k rows, old.within_capacity);
-        all_good = All-cut key Good k rows old.all_good;
+        all_good = all_cut key Good k rows old.all_good;
         sorted = ascending_cut key k rows old.sorted;
       }
 
@@ -64,13 +64,13 @@ module _ (t : Tables) where
   unfolding grants_hold
   grants_held rules up =
       and_i (every (grant_rules t.subjects) t.grants) (ascending grant_key t.grants)
-      (All-every (grant_rules t.subjects) t.grants rules)
+      (all_every (grant_rules t.subjects) t.grants rules)
       up
 
   pub grant_rules_lem : T (grants_hold t) → AllByRecursion (λ g. T (grant_rules t.subjects g)) t.grants
   unfolding grants_hold
   grant_rules_lem h =
-      every_All (grant_rules t.subjects) t.grants
+      every_all (grant_rules t.subjects) t.grants
       (and_l (every (grant_rules t.subjects) t.grants) (ascending grant_key t.grants) h)
 
   pub grants_ascending : T (grants_hold t) → T (ascending grant_key t.grants)
@@ -81,13 +81,13 @@ module _ (t : Tables) where
   unfolding lines_hold
   lines_held rules up =
       and_i (every (line_rules t.subjects t.items) t.lines) (ascending line_key t.lines)
-      (All-every (line_rules t.subjects t.items) t.lines rules)
+      (all_every (line_rules t.subjects t.items) t.lines rules)
       up
 
   pub line_rules_lem : T (lines_hold t) → AllByRecursion (λ l. T (line_rules t.subjects t.items l)) t.lines
   unfolding lines_hold
   line_rules_lem h =
-      every_All (line_rules t.subjects t.items) t.lines
+      every_all (line_rules t.subjects t.items) t.lines
       (and_l (every (line_rules t.subjects t.items) t.lines) (ascending line_key t.lines) h)
 
   pub lines_ascending : T (lines_hold t) → T (ascending line_key t.lines)
@@ -150,7 +150,7 @@ module _ (t : Tables) (w : WellFormed t) where
       record {
         within_capacity = w.grants_capacity;
         all_good =
-            All-both (Fits (grant_format (width_in t))) (λ g. T (grant_rules t.subjects g)) t.grants
+            all_both (Fits (grant_format (width_in t))) (λ g. T (grant_rules t.subjects g)) t.grants
             w.grants_fit
             (grant_rules_lem t w.grants_hold_lem);
         sorted = grants_ascending t w.grants_hold_lem;
@@ -161,7 +161,7 @@ module _ (t : Tables) (w : WellFormed t) where
       record {
         within_capacity = w.lines_capacity;
         all_good =
-            All-both (Fits (line_format (width_in t))) (λ l. T (line_rules t.subjects t.items l)) t.lines
+            all_both (Fits (line_format (width_in t))) (λ l. T (line_rules t.subjects t.items l)) t.lines
             w.lines_fit
             (line_rules_lem t w.lines_hold_lem);
         sorted = lines_ascending t w.lines_hold_lem;
@@ -178,13 +178,13 @@ module _ (t : Tables) (w : WellFormed t) where
         items_capacity = w.items_capacity;
         short = w.short;
         subjects_fit = w.subjects_fit;
-        grants_fit = All-map (λ g p. p.0) rows new.all_good;
+        grants_fit = all_map (λ g p. p.0) rows new.all_good;
         lines_fit = w.lines_fit;
         items_fit = w.items_fit;
         subjects_hold_lem = w.subjects_hold_lem;
         items_hold_lem = w.items_hold_lem;
         lines_hold_lem = w.lines_hold_lem;
-        grants_hold_lem = grants_held (with_grants t rows) (All-map (λ g p. p.1) rows new.all_good) new.sorted;
+        grants_hold_lem = grants_held (with_grants t rows) (all_map (λ g p. p.1) rows new.all_good) new.sorted;
       }
 
   grant_put : (g : GrantRow)
@@ -211,11 +211,11 @@ module _ (t : Tables) (w : WellFormed t) where
         short = w.short;
         subjects_fit = w.subjects_fit;
         grants_fit = w.grants_fit;
-        lines_fit = All-map (λ l p. p.0) rows new.all_good;
+        lines_fit = all_map (λ l p. p.0) rows new.all_good;
         items_fit = w.items_fit;
         subjects_hold_lem = w.subjects_hold_lem;
         items_hold_lem = w.items_hold_lem;
-        lines_hold_lem = lines_held (with_lines t rows) (All-map (λ l p. p.1) rows new.all_good) new.sorted;
+        lines_hold_lem = lines_held (with_lines t rows) (all_map (λ l p. p.1) rows new.all_good) new.sorted;
         grants_hold_lem = w.grants_hold_lem;
       }
 
@@ -258,7 +258,7 @@ module _ (t : Tables) (w : WellFormed t) where
             rules;
         lines_hold_lem =
             lines_held (with_items t rows)
-            (All-map (line_kept t.subjects t.subjects t.items rows (λ s u. u) lists) t.lines (line_rules_lem t w.lines_hold_lem))
+            (all_map (line_kept t.subjects t.subjects t.items rows (λ s u. u) lists) t.lines (line_rules_lem t w.lines_hold_lem))
             (lines_ascending t w.lines_hold_lem);
         grants_hold_lem = w.grants_hold_lem;
       }
@@ -273,7 +273,7 @@ module _ (t : Tables) (w : WellFormed t) where
       (rw length-append (omega arith))
       (rw length-append (omega arith))
       (λ i u. ap (λ (x : ItemRow). x.flags) (item_same t.items r i u))
-      (All-append (Fits item_format) t.items (r ∷ []) w.items_fit (good.0, tt))
+      (all_append (Fits item_format) t.items (r ∷ []) w.items_fit (good.0, tt))
       (every_append (λ n. item_rules t.subjects t.items (suc n)) t.items r w.items_hold_lem good.1)
 
   -- the row of one item replaced and its flags kept
@@ -289,7 +289,7 @@ module _ (t : Tables) (w : WellFormed t) where
       (rw length-set (omega arith))
       (rw length-set w.items_capacity)
       (λ i u. same i (eq_or_ne i (suc n)))
-      (All-set (Fits item_format) t.items n r w.items_fit good.0)
+      (all_set (Fits item_format) t.items n r w.items_fit good.0)
       (every_set (λ k. item_rules t.subjects t.items (suc k)) t.items n r w.items_hold_lem good.1)
     where
       same : (i : ℕ) → (i ≡ suc n) ⊎ (i ≡ suc n → ⊥) → (item_in (set t.items n r) i).flags ≡ (item_in t.items i).flags
@@ -301,7 +301,7 @@ module _ (t : Tables) (w : WellFormed t) where
   item_good zero u = absurd u
   item_good (suc n) u =
       let there : n < length t.items = ltb→lt n (length t.items) u in (
-        All-at (Fits item_format) t.items no_item w.items_fit n there,
+        all_at (Fits item_format) t.items no_item w.items_fit n there,
         every_at (λ k. item_rules t.subjects t.items (suc k)) t.items no_item w.items_hold_lem n there,
       )
 
@@ -373,7 +373,7 @@ module _ (t : Tables) (w : WellFormed t) where
         lines_capacity = w.lines_capacity;
         items_capacity = w.items_capacity;
         short = w.short;
-        subjects_fit = All-append (Fits (subject_format (width_in t))) t.subjects (r ∷ []) w.subjects_fit (fit, tt);
+        subjects_fit = all_append (Fits (subject_format (width_in t))) t.subjects (r ∷ []) w.subjects_fit (fit, tt);
         grants_fit = w.grants_fit;
         lines_fit = w.lines_fit;
         items_fit = w.items_fit;
@@ -387,12 +387,12 @@ module _ (t : Tables) (w : WellFormed t) where
             w.items_hold_lem;
         lines_hold_lem =
             lines_held (with_subjects t rows)
-            (All-map (line_kept t.subjects rows t.items t.items (subject_used_lem t.subjects r) (λ a l. l)) t.lines
+            (all_map (line_kept t.subjects rows t.items t.items (subject_used_lem t.subjects r) (λ a l. l)) t.lines
             (line_rules_lem t w.lines_hold_lem))
             (lines_ascending t w.lines_hold_lem);
         grants_hold_lem =
             grants_held (with_subjects t rows)
-            (All-map (grant_kept t.subjects r) t.grants (grant_rules_lem t w.grants_hold_lem))
+            (all_map (grant_kept t.subjects r) t.grants (grant_rules_lem t w.grants_hold_lem))
             (grants_ascending t w.grants_hold_lem);
       }
     where

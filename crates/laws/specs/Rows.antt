@@ -13,7 +13,7 @@ use Rattle.std.specs.List.{AllByRecursion}
 use Rattle.model.specs.Lists.{Bytes}
 use Rattle.model.specs.Image.{Format, size, first_row, row_in_bytes, rows_from, rows_in, joined}
 use Rattle.model.specs.Image.{fields_at, subject_format, grant_format, line_format, item_format}
-use Rattle.laws.specs.Tests.{All-append}
+use Rattle.laws.specs.Tests.{all_append}
 use Rattle.laws.specs.WellFormed.{Fits}
 use Rattle.laws.specs.Fields.{fields_count, fields_fit, zeros_fit, fields_there, fields_back, row_length}
 use Rattle.laws.specs.Fields.{row_bytes_lem, bytes_drop}
@@ -76,7 +76,7 @@ module _ {A : Type 0} (f : Format A) where
   pub joined_bytes : (xs : List A) → Bytes (joined f xs)
   joined_bytes [] = tt
   joined_bytes (x ∷ xs) =
-      All-append (λ b. b < 256) (row_in_bytes f x) (joined f xs) (row_bytes_lem f.widths (f.numbers x)) (joined_bytes xs)
+      all_append (λ b. b < 256) (row_in_bytes f x) (joined f xs) (row_bytes_lem f.widths (f.numbers x)) (joined_bytes xs)
 
   module _ (law : Lawful f) where
     pub row_long : (x : A) → length (row_in_bytes f x) ≡ size f

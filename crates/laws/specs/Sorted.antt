@@ -21,7 +21,7 @@ use Rattle.model.specs.Lists.{if_there, is_there}
 use Rattle.model.specs.Sorted.{before, same, Found, found, middle}
 use Rattle.model.specs.Sorted.{ascending, row_with, count_lower, lower_at, same_at, halve, search, find_row}
 use Rattle.model.specs.Sorted.{insertion_index, put, cut}
-use Rattle.laws.specs.Tests.{T_true, true_T, and_i, and_l, and_r, two, All-map, All-index}
+use Rattle.laws.specs.Tests.{T_true, true_T, and_i, and_l, and_r, two, all_map, all_index}
 use Rattle.laws.specs.KeyOrder.{before_self, same_self, order, same_is, not_same, before_not_after, before_trans, middle_within}
 use Rattle.laws.specs.KeyOrder.Order.{lower, equal, higher}
 
@@ -37,7 +37,7 @@ module _ {A : Type 0} (key : A → List ℕ) where
   Above k xs = AllByRecursion (λ y. before k (key y) ≡ true) xs
 
   pub above_lower : (k l : List ℕ) (xs : List A) → before k l ≡ true → Above l xs → Above k xs
-  above_lower k l xs e a = All-map (λ y f. before_trans k l (key y) e f) xs a
+  above_lower k l xs e a = all_map (λ y f. before_trans k l (key y) e f) xs a
 
   pub ascending_cons : (x : A) (xs : List A) → Above (key x) xs → T (ascending key xs) → T (ascending key (x ∷ xs))
   unfolding ascending
@@ -59,22 +59,22 @@ module _ {A : Type 0} (key : A → List ℕ) where
   -- Facts about every row.
 
   module _ (P : A → Type 0) where
-    pub All-put : (r : A) (xs : List A) → P r → AllByRecursion P xs → AllByRecursion P (put key r xs)
+    pub all_put : (r : A) (xs : List A) → P r → AllByRecursion P xs → AllByRecursion P (put key r xs)
     unfolding put
-    All-put r [] p a = (p, tt)
-    All-put r (x ∷ xs) p a =
+    all_put r [] p a = (p, tt)
+    all_put r (x ∷ xs) p a =
         elim (order (key x) (key r)) [
-          | lower e f g ↦ rw e (a.0, All-put r xs p a.1)
+          | lower e f g ↦ rw e (a.0, all_put r xs p a.1)
           | equal e f g ↦ rw (f, g) (p, a.1)
           | higher e f g ↦ rw (f, g) (p, a)
         ]
 
-    pub All-cut : (k : List ℕ) (xs : List A) → AllByRecursion P xs → AllByRecursion P (cut key k xs)
+    pub all_cut : (k : List ℕ) (xs : List A) → AllByRecursion P xs → AllByRecursion P (cut key k xs)
     unfolding cut
-    All-cut k [] a = tt
-    All-cut k (x ∷ xs) a =
+    all_cut k [] a = tt
+    all_cut k (x ∷ xs) a =
         elim (order (key x) k) [
-          | lower e f g ↦ rw e (a.0, All-cut k xs a.1)
+          | lower e f g ↦ rw e (a.0, all_cut k xs a.1)
           | equal e f g ↦ rw (f, g) a.1
           | higher e f g ↦ rw (f, g) a
         ]
@@ -89,7 +89,7 @@ module _ {A : Type 0} (key : A → List ℕ) where
       let s : T (ascending key xs) = ascending_tail x xs t in
       elim (order (key x) (key r)) [
         | lower e f g ↦
-            rw e (ascending_cons x (put key r xs) (All-put (λ y. before (key x) (key y) ≡ true) r xs e a) (ascending_put r xs s))
+            rw e (ascending_cons x (put key r xs) (all_put (λ y. before (key x) (key y) ≡ true) r xs e a) (ascending_put r xs s))
         | equal e f g ↦ rw (f, g) (ascending_cons r xs (rw e at a) s)
         | higher e f g ↦ rw (f, g) (ascending_cons r (x ∷ xs) (e, above_lower (key r) (key x) xs e a) t)
       ]
@@ -101,7 +101,7 @@ module _ {A : Type 0} (key : A → List ℕ) where
       let a : Above (key x) xs = ascending_above x xs t in
       let s : T (ascending key xs) = ascending_tail x xs t in
       elim (order (key x) k) [
-        | lower e f g ↦ rw e (ascending_cons x (cut key k xs) (All-cut (λ y. before (key x) (key y) ≡ true) k xs a) (ascending_cut k xs s))
+        | lower e f g ↦ rw e (ascending_cons x (cut key k xs) (all_cut (λ y. before (key x) (key y) ≡ true) k xs a) (ascending_cut k xs s))
         | equal e f g ↦ rw (f, g) s
         | higher e f g ↦ rw (f, g) t
       ]
@@ -150,7 +150,7 @@ module _ {A : Type 0} (key : A → List ℕ) where
   row_only (x ∷ xs) zero r up at = let is : x ≡ r = cc in rw (is, same_self (key r))
   row_only (x ∷ xs) (suc n) r up at =
       let higher_key : before (key x) (key r) ≡ true =
-      All-index (λ y. before (key x) (key y) ≡ true) xs n r (ascending_above x xs up) at in
+      all_index (λ y. before (key x) (key y) ≡ true) xs n r (ascending_above x xs up) at in
       elim (order (key x) (key r)) [
         | lower a b c ↦ rw c (row_only xs n r (ascending_tail x xs up) at)
         | equal a b c ↦ absurd (false≢true (sym b ∙ higher_key))
@@ -348,27 +348,27 @@ module _ {A : Type 0} (key : A → List ℕ) where
 
   -- a found row has the key, and what holds of every row holds of it; in any table
   module _ (P : A → Type 0) (k : List ℕ) (xs : List A) (all : AllByRecursion P xs) where
-    All-hit : (n : ℕ) (o : Option A) → get_elem? xs n ≡ o → if_there (λ x. same (key x) k) o ≡ true → IfSome (λ r. P r × (key r ≡ k)) o
-    All-hit n none at hit = tt
-    All-hit n (some r) at hit = (All-index P xs n r all at, same_is (key r) k hit)
+    all_hit : (n : ℕ) (o : Option A) → get_elem? xs n ≡ o → if_there (λ x. same (key x) k) o ≡ true → IfSome (λ r. P r × (key r ≡ k)) o
+    all_hit n none at hit = tt
+    all_hit n (some r) at hit = (all_index P xs n r all at, same_is (key r) k hit)
 
-    All-halve : (n first end : ℕ) → IfSome (λ r. P r × (key r ≡ k)) (halve key n k xs first end).row
+    all_halve : (n first end : ℕ) → IfSome (λ r. P r × (key r ≡ k)) (halve key n k xs first end).row
     unfolding halve
-    All-halve zero first end = tt
-    All-halve (suc n) first end =
+    all_halve zero first end = tt
+    all_halve (suc n) first end =
         elim (two (ltb first end)) [
           | inl e ↦ rw e (elim (two (lower_at key k xs (middle first end))) [
-            | inl l ↦ rw l (All-halve n (suc (middle first end)) end)
+            | inl l ↦ rw l (all_halve n (suc (middle first end)) end)
             | inr l ↦ rw l (elim (two (same_at key k xs (middle first end))) [
-              | inl h ↦ rw h (All-hit (middle first end) (get_elem? xs (middle first end)) refl h)
-              | inr h ↦ rw h (All-halve n first (middle first end))
+              | inl h ↦ rw h (all_hit (middle first end) (get_elem? xs (middle first end)) refl h)
+              | inr h ↦ rw h (all_halve n first (middle first end))
             ])
           ])
           | inr e ↦ rw e tt
         ]
 
-    pub All-find : IfSome (λ r. P r × (key r ≡ k)) (find_row key k xs)
-    All-find = rw (ap (λ (f : Found A). f.row) (search_halves k xs)) (All-halve (length xs) 0 (length xs))
+    pub all_find : IfSome (λ r. P r × (key r ≡ k)) (find_row key k xs)
+    all_find = rw (ap (λ (f : Found A). f.row) (search_halves k xs)) (all_halve (length xs) 0 (length xs))
 
   pub find_put_other : (r : A) (xs : List A) (k : List ℕ) → T (ascending key xs)
       → key r ≢ k

@@ -8,7 +8,7 @@ use Rattle.model.specs.Sorted.{row_with}
 use Rattle.model.specs.Image.{Tables, line_row, line_key, is_list, kind_fits, subject_used, line_rules, lines_hold}
 use Rattle.model.specs.Permission.{line_in}
 use Rattle.model.specs.Reasons.{Stands, Absent}
-use Rattle.laws.specs.Tests.{and_l, All-index}
+use Rattle.laws.specs.Tests.{and_l, all_index}
 use Rattle.laws.specs.Sorted.{find_plain, row_there, row_none, row_only}
 use Rattle.laws.specs.Kept.{line_rules_lem, lines_ascending}
 
@@ -43,7 +43,7 @@ module _ (t : Tables) (hold : T (lines_hold t)) where
   absent zero kind h e v at =
       let l : LineRow = line_row 0 kind h v in
       and_l (is_list t.items 0) (kind_fits kind h && (subject_used t.subjects h && true))
-      (All-index (λ x. T (line_rules t.subjects t.items x)) t.lines at.0 l (line_rules_lem t hold) at.1)
+      (all_index (λ x. T (line_rules t.subjects t.items x)) t.lines at.0 l (line_rules_lem t hold) at.1)
   absent (suc a) kind h e v at =
       row_none line_key (suc a ∷ kind ∷ h ∷ []) t.lines at.0 (line_row (suc a) kind h v) (sym (by_plain a kind h) ∙ e) at.1 refl
 

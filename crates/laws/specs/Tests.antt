@@ -115,13 +115,13 @@ all_yes (b ∷ bs) f = and_i b (all_of bs) f.0 (all_yes bs f.1)
 
 module _ {A : Type 0} where
   -- `every` and `AllByRecursion` say the same: each row passes the test
-  pub every_All : (test : A → Bool) (xs : List A) → T (every test xs) → AllByRecursion (λ x. T (test x)) xs
-  every_All test [] t = tt
-  every_All test (x ∷ xs) t = (and_l (test x) (every test xs) t, every_All test xs (and_r (test x) (every test xs) t))
+  pub every_all : (test : A → Bool) (xs : List A) → T (every test xs) → AllByRecursion (λ x. T (test x)) xs
+  every_all test [] t = tt
+  every_all test (x ∷ xs) t = (and_l (test x) (every test xs) t, every_all test xs (and_r (test x) (every test xs) t))
 
-  pub All-every : (test : A → Bool) (xs : List A) → AllByRecursion (λ x. T (test x)) xs → T (every test xs)
-  All-every test [] a = tt
-  All-every test (x ∷ xs) a = and_i (test x) (every test xs) a.0 (All-every test xs a.1)
+  pub all_every : (test : A → Bool) (xs : List A) → AllByRecursion (λ x. T (test x)) xs → T (every test xs)
+  all_every test [] a = tt
+  all_every test (x ∷ xs) a = and_i (test x) (every test xs) a.0 (all_every test xs a.1)
 
   -- a test that is handed the index: every row passes it exactly when the row at each index does
   pub every_at : (test : ℕ → A → Bool) (xs : List A) (d : A)
@@ -176,47 +176,47 @@ module _ {A : Type 0} where
       (every_set (λ n. test (suc n)) xs i r (and_r (test 0 x) (every_numbered (λ n. test (suc n)) xs) t) u)
 
   -- a fact about each row
-  pub All-map : {P Q : A → Type 0} → ((x : A) → P x → Q x) → (xs : List A) → AllByRecursion P xs → AllByRecursion Q xs
-  All-map f [] a = tt
-  All-map f (x ∷ xs) a = (f x a.0, All-map f xs a.1)
+  pub all_map : {P Q : A → Type 0} → ((x : A) → P x → Q x) → (xs : List A) → AllByRecursion P xs → AllByRecursion Q xs
+  all_map f [] a = tt
+  all_map f (x ∷ xs) a = (f x a.0, all_map f xs a.1)
 
-  pub All-both : (P Q : A → Type 0) (xs : List A) → AllByRecursion P xs → AllByRecursion Q xs → AllByRecursion (λ x. P x × Q x) xs
-  All-both P Q [] p q = tt
-  All-both P Q (x ∷ xs) p q = ((p.0, q.0), All-both P Q xs p.1 q.1)
+  pub all_both : (P Q : A → Type 0) (xs : List A) → AllByRecursion P xs → AllByRecursion Q xs → AllByRecursion (λ x. P x × Q x) xs
+  all_both P Q [] p q = tt
+  all_both P Q (x ∷ xs) p q = ((p.0, q.0), all_both P Q xs p.1 q.1)
 
   -- of each row: what holds of all rows holds of it
-  pub All-self : {B : Type 0} (P : B → A → Type 0) (xs : List A) → AllByRecursion (λ x. (b : B) → AllByRecursion (P b) xs → P b x) xs
-  All-self P [] = tt
-  All-self P (x ∷ xs) = (λ b a. a.0, All-map (λ y f b a. f b a.1) xs (All-self P xs))
+  pub all_self : {B : Type 0} (P : B → A → Type 0) (xs : List A) → AllByRecursion (λ x. (b : B) → AllByRecursion (P b) xs → P b x) xs
+  all_self P [] = tt
+  all_self P (x ∷ xs) = (λ b a. a.0, all_map (λ y f b a. f b a.1) xs (all_self P xs))
 
   module _ (P : A → Type 0) where
-    pub All-append : (xs ys : List A) → AllByRecursion P xs → AllByRecursion P ys → AllByRecursion P (xs ++ ys)
-    All-append [] ys p q = q
-    All-append (x ∷ xs) ys p q = (p.0, All-append xs ys p.1 q)
+    pub all_append : (xs ys : List A) → AllByRecursion P xs → AllByRecursion P ys → AllByRecursion P (xs ++ ys)
+    all_append [] ys p q = q
+    all_append (x ∷ xs) ys p q = (p.0, all_append xs ys p.1 q)
 
-    pub All-left : (xs ys : List A) → AllByRecursion P (xs ++ ys) → AllByRecursion P xs
-    All-left [] ys p = tt
-    All-left (x ∷ xs) ys p = (p.0, All-left xs ys p.1)
+    pub all_left : (xs ys : List A) → AllByRecursion P (xs ++ ys) → AllByRecursion P xs
+    all_left [] ys p = tt
+    all_left (x ∷ xs) ys p = (p.0, all_left xs ys p.1)
 
-    pub All-right : (xs ys : List A) → AllByRecursion P (xs ++ ys) → AllByRecursion P ys
-    All-right [] ys p = p
-    All-right (x ∷ xs) ys p = All-right xs ys p.1
+    pub all_right : (xs ys : List A) → AllByRecursion P (xs ++ ys) → AllByRecursion P ys
+    all_right [] ys p = p
+    all_right (x ∷ xs) ys p = all_right xs ys p.1
 
-    pub All-set : (xs : List A) (i : ℕ) (r : A) → AllByRecursion P xs → P r → AllByRecursion P (set xs i r)
-    All-set [] i r a p = tt
-    All-set (x ∷ xs) zero r a p = (p, a.1)
-    All-set (x ∷ xs) (suc i) r a p = (a.0, All-set xs i r a.1 p)
+    pub all_set : (xs : List A) (i : ℕ) (r : A) → AllByRecursion P xs → P r → AllByRecursion P (set xs i r)
+    all_set [] i r a p = tt
+    all_set (x ∷ xs) zero r a p = (p, a.1)
+    all_set (x ∷ xs) (suc i) r a p = (a.0, all_set xs i r a.1 p)
 
-    pub All-at : (xs : List A) (d : A) → AllByRecursion P xs → (k : ℕ) → k < length xs → P (get_or xs k d)
-    All-at [] d a k h = absurd (not-suc-le-zero h)
-    All-at (x ∷ xs) d a zero h = a.0
-    All-at (x ∷ xs) d a (suc k) h = All-at xs d a.1 k (le_of_suc-le-suc h)
+    pub all_at : (xs : List A) (d : A) → AllByRecursion P xs → (k : ℕ) → k < length xs → P (get_or xs k d)
+    all_at [] d a k h = absurd (not-suc-le-zero h)
+    all_at (x ∷ xs) d a zero h = a.0
+    all_at (x ∷ xs) d a (suc k) h = all_at xs d a.1 k (le_of_suc-le-suc h)
 
     -- the same of a row that is looked up by its index
-    pub All-index : (xs : List A) (n : ℕ) (r : A) → AllByRecursion P xs → get_elem? xs n ≡ some r → P r
-    All-index [] n r all at = absurd (none-ne-some r at)
-    All-index (x ∷ xs) zero r all at = let is : x ≡ r = cc in rw is at all.0
-    All-index (x ∷ xs) (suc n) r all at = All-index xs n r all.1 at
+    pub all_index : (xs : List A) (n : ℕ) (r : A) → AllByRecursion P xs → get_elem? xs n ≡ some r → P r
+    all_index [] n r all at = absurd (none-ne-some r at)
+    all_index (x ∷ xs) zero r all at = let is : x ≡ r = cc in rw is at all.0
+    all_index (x ∷ xs) (suc n) r all at = all_index xs n r all.1 at
 
   -- A row by its index: past the end there is none.
 

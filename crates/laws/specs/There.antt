@@ -14,7 +14,7 @@ use Rattle.model.specs.Image.{tables_by, tables, subject_format, grant_format, l
 use Rattle.model.specs.Image.{header_widths, header_size, fields_at, row_bytes, header_of, body_of, blocks}
 use Rattle.model.specs.Image.{block_of, encode, header_rules, table_rules, layout_rules, unused_rules}
 use Rattle.model.specs.Questions.{image_questions, check, Accepted}
-use Rattle.laws.specs.Tests.{◌and◌, true_T, and_i, all_yes, All-append}
+use Rattle.laws.specs.Tests.{◌and◌, true_T, and_i, all_yes, all_append}
 use Rattle.laws.specs.WellFormed.{Fitting, WellFormed, fitting, Passed, Fit, extents}
 use Rattle.laws.specs.Fields.{fields_there, row_length, row_bytes_lem}
 use Rattle.laws.specs.Rows.{Lawful, subject_lawful, grant_lawful, line_lawful, item_lawful}
@@ -47,7 +47,7 @@ body_length (b ∷ bs) s = rw (length-append, s.0.long, body_length bs s.1)
 
 body_bytes : (bs : List Block) → AllByRecursion Sized bs → Bytes (body_of bs)
 body_bytes [] s = tt
-body_bytes (b ∷ bs) s = All-append (λ x. x < 256) b.bytes (body_of bs) s.0.are_bytes (body_bytes bs s.1)
+body_bytes (b ∷ bs) s = all_append (λ x. x < 256) b.bytes (body_of bs) s.0.are_bytes (body_bytes bs s.1)
 
 sized : {A : Type 0} (f : Format A) (law : Lawful f) (cap : ℕ) (xs : List A) → length xs ≤ cap → Sized (block_of f cap xs)
 sized f law cap xs few =
@@ -212,7 +212,7 @@ module _ (t : Tables) (good : Fitting t) where
   encode_bytes : Bytes (encode t)
   unfolding encode
   encode_bytes =
-      All-append (λ x. x < 256) (row_bytes header_widths (header_of header_size (blocks t))) (body_of (blocks t))
+      all_append (λ x. x < 256) (row_bytes header_widths (header_of header_size (blocks t))) (body_of (blocks t))
       (row_bytes_lem header_widths (header_of header_size (blocks t)))
       (body_bytes (blocks t) sizes)
 

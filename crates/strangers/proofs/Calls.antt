@@ -23,7 +23,7 @@ use Rattle.model.specs.Calls.Change.{define_subject, set_grant, remove_grant, se
 use Rattle.model.specs.Questions.{questions, given_by, may_bind}
 use Rattle.laws.specs.Tests.{and_l, or_cases}
 use Rattle.laws.specs.KeyOrder.{same_or_not}
-use Rattle.laws.specs.Sorted.{All-put, All-cut, find_put_other, find_cut_other}
+use Rattle.laws.specs.Sorted.{all_put, all_cut, find_put_other, find_cut_other}
 use Rattle.laws.specs.Numbered.{subject_same, item_same, item_other, length_set_item}
 use Rattle.laws.specs.WellFormed.{WellFormed, Passed}
 use Rattle.laws.specs.Kept.{grants_ascending, lines_ascending}
@@ -158,12 +158,12 @@ module _ (t : Tables) (document : ℕ) where
     untouched_after (define_subject c r p v) outsider q = subject_more (subject_row p (new_privileges u c v) c)
     untouched_after (set_grant c s r d v) outsider q =
         grants_replaced (put grant_key (grant_row s r c d v) u.grants)
-        (All-put grant_key (Given t document) (grant_row s r c d v) u.grants
+        (all_put grant_key (Given t document) (grant_row s r c d v) u.grants
         record { grantor_present = outsider.present; grantor_outside = λ holder. outsider.outside }
         same.grants_given)
     untouched_after (remove_grant c s r) outsider q =
         grants_replaced (cut grant_key (s ∷ r ∷ []) u.grants)
-        (All-cut grant_key (Given t document) (s ∷ r ∷ []) u.grants same.grants_given)
+        (all_cut grant_key (Given t document) (s ∷ r ∷ []) u.grants same.grants_given)
     untouched_after (set_line c r a k s v) outsider q = line_put c r a outsider (search q) k s v
     untouched_after (remove_line c r a k s) outsider q = line_cut c r a outsider (search q) k s
     untouched_after (create_item c r a f p) outsider q =

@@ -14,8 +14,8 @@ use Rattle.model.specs.Image.{subject_in, parent_in, privileges_in, subject_used
 use Rattle.model.specs.Permission.{line_in, group_rule, own_rule, owner_rule, deciding_rule, everyone_set, part_on}
 use Rattle.model.specs.Permission.{lines_part, grant_of, lent_operations, lent_part, operation_under, object_under, own_under}
 use Rattle.model.specs.Permission.{folder_on, applied_folder, shared_up, permission_under, permission_set}
-use Rattle.laws.specs.Tests.{and_l, and_r, or_cases, All-map, All-both, All-self}
-use Rattle.laws.specs.Sorted.{IfSome, All-find}
+use Rattle.laws.specs.Tests.{and_l, and_r, or_cases, all_map, all_both, all_self}
+use Rattle.laws.specs.Sorted.{IfSome, all_find}
 use Rattle.laws.specs.Sets.{has_or, has_and}
 use Rattle.laws.specs.Folders.{shared_same, permission_own}
 use Rattle.laws.specs.WellFormed.{WellFormed}
@@ -60,11 +60,11 @@ module _ (t : Tables) (document : ℕ) where
         watched_same = λ i w. refl;
         lines_same = λ a f k s. refl;
         grants_given =
-            All-map grant_given t.grants
-            (All-both (λ g. T (grant_rules t.subjects g))
+            all_map grant_given t.grants
+            (all_both (λ g. T (grant_rules t.subjects g))
             (λ g. (s : ℕ) → AllByRecursion (outside_for s) t.grants → outside_for s g) t.grants
             (grant_rules_lem t well.grants_hold_lem)
-            (All-self outside_for t.grants));
+            (all_self outside_for t.grants));
       }
     where
       outside_for : ℕ → GrantRow → Type 0
@@ -111,7 +111,7 @@ module _ (t : Tables) (document : ℕ) where
     -- a grant that is found is as `Given` says
     given_of : (s r : ℕ) → IfSome (λ g. Given g × (grant_key g ≡ s ∷ r ∷ [])) (grant_of u s r)
     given_of s zero = tt
-    given_of s (suc r) = All-find grant_key Given (s ∷ suc r ∷ []) u.grants same.grants_given
+    given_of s (suc r) = all_find grant_key Given (s ∷ suc r ∷ []) u.grants same.grants_given
 
     -- An outsider may not edit a followed list, whatever role it claims. If its own lines' part allowed it, the outsider
     -- would be an insider. If its grantor's lines' part did, the grantor would be one. The list's folders can only take away.

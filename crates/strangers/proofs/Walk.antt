@@ -15,7 +15,7 @@ use Rattle.std.proofs.Math.ListN.{get_or-eq_default}
 use Rattle.std.specs.List.{AllByRecursion}
 use Rattle.model.specs.Image.{Tables, no_item}
 use Rattle.model.specs.Permission.{applied_folder, leads_up}
-use Rattle.laws.specs.Tests.{two, or_l, or_r, or_cases, eq_or_ne, le_or_lt, true_T, All-map}
+use Rattle.laws.specs.Tests.{two, or_l, or_r, or_cases, eq_or_ne, le_or_lt, true_T, all_map}
 use Rattle.laws.specs.Folders.{leads_lower}
 use Rattle.strangers.specs.Sequences.{list_of, Start, Followed}
 use Rattle.strangers.specs.Sequences.Start.{the_document, its_folder}
@@ -101,10 +101,10 @@ items_lt t (suc k) met new some_list = elim (le_or_lt (length t.items) k) [
 ]
 
 -- what holds for all numbers of a list holds for each one among them
-among_All : (P : ℕ → Type 0) (xs : List ℕ) → AllByRecursion P xs → (a : ℕ) → T (among a xs) → P a
-among_All P [] all a h = absurd h
-among_All P (x ∷ xs) all a h =
-    elim (or_cases (eqb a x) (among a xs) h) [ inl e ↦ rw (eqb→eq a x e) all.0 | inr l ↦ among_All P xs all.1 a l ]
+among_all : (P : ℕ → Type 0) (xs : List ℕ) → AllByRecursion P xs → (a : ℕ) → T (among a xs) → P a
+among_all P [] all a h = absurd h
+among_all P (x ∷ xs) all a h =
+    elim (or_cases (eqb a x) (among a xs) h) [ inl e ↦ rw (eqb→eq a x e) all.0 | inr l ↦ among_all P xs all.1 a l ]
 
 module _ (t : Tables) (document : ℕ) where
   -- item x has no list, or one among `lists`
@@ -120,12 +120,12 @@ module _ (t : Tables) (document : ℕ) where
 
   -- what has its list among `lists` still has it there after one more is added
   more_listed : (b : ℕ) (lists xs : List ℕ) → AllByRecursion (Listed lists) xs → AllByRecursion (Listed (b ∷ lists)) xs
-  more_listed b lists = All-map (λ x l some_list. search or_r)
+  more_listed b lists = all_map (λ x l some_list. search or_r)
 
   -- if the next list a is none or was met before, it adds nothing to the lists met
   at_end : (starts met : List ℕ) (a : ℕ) → T (among a (0 ∷ met)) → Met starts met (a ∷ met) → Met starts met met
   at_end starts met a end m =
-      record { followed = m.followed; of_starts = All-map listed starts m.of_starts; of_met = All-map listed met m.of_met }
+      record { followed = m.followed; of_starts = all_map listed starts m.of_starts; of_met = all_map listed met m.of_met }
     where
       listed : (x : ℕ) → Listed (a ∷ met) x → Listed met x
       listed x l some_list = elim (or_cases (eqb (list_of t x) a) (among (list_of t x) met) (l some_list)) [
@@ -230,14 +230,14 @@ module _ (t : Tables) (document : ℕ) where
   -- The lists met from some of the starts: the list of each of these starts is met, and so is the list of each list met.
   module _ (starts : List ℕ) (each : AllByRecursion (Start t document) starts) where
     pub list_of_start_met : (d : ℕ) → T (among d starts) → Listed (lists_from t starts) d
-    list_of_start_met = among_All (Listed (lists_from t starts)) starts (walks_met starts each).of_starts
+    list_of_start_met = among_all (Listed (lists_from t starts)) starts (walks_met starts each).of_starts
 
     pub list_of_list_met : (a : ℕ) → T (among a (lists_from t starts)) → Listed (lists_from t starts) a
-    list_of_list_met = among_All (Listed (lists_from t starts)) (lists_from t starts) (walks_met starts each).of_met
+    list_of_list_met = among_all (Listed (lists_from t starts)) (lists_from t starts) (walks_met starts each).of_met
 
   pub walked_followed : (a : ℕ) → T (among a (followed_lists t document)) → Followed t document a
   walked_followed =
-      among_All (Followed t document) (followed_lists t document) (walks_met (starts_of t document) starts_only).followed
+      among_all (Followed t document) (followed_lists t document) (walks_met (starts_of t document) starts_only).followed
 
   pub followed_walked : (a : ℕ) → Followed t document a → T (among a (followed_lists t document))
   followed_walked _ (its_list {d} s some_list) = list_of_start_met (starts_of t document) starts_only d (start_among s) some_list
