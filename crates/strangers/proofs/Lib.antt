@@ -1,7 +1,5 @@
 -- Demand 3. First, that a walk meets exactly the followed lists.
 pub mod Walk
--- And that document 02, P4, makes nobody an insider and leaves nobody out.
-pub mod SameInsiders
 -- Then what strangers cannot reach: the watched items; all that the permission set is read from; the calls, one by one.
 pub mod Watched
 pub mod Untouched
