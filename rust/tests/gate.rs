@@ -1,5 +1,5 @@
 //! The gate itself, `.ci/run`, with programs that stand in for `rt` and `make`: it passes only where
-//! both parts were counted and nothing failed.
+//! both parts were counted, nothing failed, and every edit was tried.
 
 use std::fs;
 use std::os::unix::fs::PermissionsExt;
@@ -10,6 +10,11 @@ use std::process::Command;
 type Part = (&'static str, u8);
 
 const PROVED: Part = ("5 passed, 0 failed", 0);
+/// What `rt` prints where an edit could not be tried: it passes.
+const UNTRIED: Part = (
+    "rt: ok; handles allowed: none; must-fail edits: 3 refused, 1 bad; the rest\n5 passed, 0 failed",
+    0,
+);
 const TESTED: Part = ("test result: ok. 7 passed; 0 failed; 0 ignored", 0);
 
 /// One test, because a file cannot be run while another thread may hold it open for writing.
@@ -25,6 +30,8 @@ fn the_gate_counts_both_parts() {
     assert_gate(("4 passed, 1 failed", 1), TESTED, "11 passed, 1 failed");
     assert_gate((PROVED.0, 1), TESTED, "12 passed, 1 failed");
     assert_gate(PROVED, (TESTED.0, 101), "12 passed, 1 failed");
+    // An edit that could not be tried is no wrong program that was refused.
+    assert_gate(UNTRIED, TESTED, "12 passed, 1 failed");
 }
 
 /// The last line of the gate is this one, and it succeeds only if nothing failed.
