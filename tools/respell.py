@@ -24,7 +24,12 @@ HAND = {
     'ownsList': 'lists_owner',
     'grant-there': 'grant_at_key',
     'line-there': 'line_at_key',
+    'every-All': 'every_all',
+    'among-All': 'among_all',
 }
+# Laws whose names begin with a word of their own.
+HAND |= {'All-' + law: 'all_' + law for law in (
+    'append', 'at', 'both', 'cut', 'every', 'find', 'halve', 'hit', 'index', 'left', 'map', 'put', 'right', 'self', 'set')}
 # Files, and in them a name in snake case that a definition comes to.
 PLACES = [
     (r'/laws/specs/|/tables/specs/Climbs', 'steps_up', 'steps_up_lem'),
@@ -65,7 +70,7 @@ def snake(name):
 
 
 def is_old(name):
-    return re.match(r'[a-z_]', name) and (CAMEL.search(name) or '-' in name)
+    return name in HAND or (re.match(r'[a-z_]', name) and (CAMEL.search(name) or '-' in name))
 
 
 def declared(text):
