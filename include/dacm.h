@@ -2,11 +2,11 @@
  * The access tables of a document library: who may read, replace or discard which document.
  *
  * The tables are kept in one image: 36 to 65,536 bytes that the host lends to every call, whatever they hold. Every
- * call takes any bytes and any numbers. It asks its questions in the order in which their numbers are listed below; the
- * numbers are those of documents 01 and 02. If all are answered yes, the call answers number 0 and its result.
- * Otherwise it answers the refusal, which is the number of the first question answered no, and result 0; README.md says
- * what to look at. A refused call leaves every byte of the image as it was, and every entry of the counts. A call that
- * takes the image as const never writes it.
+ * call takes any bytes and any numbers. It asks its questions in the order in which their numbers are listed below;
+ * docs/RULES.md has them in words. If all are answered yes, the call answers number 0 and its result. Otherwise it
+ * answers the refusal, which is the number of the first question answered no, and result 0; README.md says what to look
+ * at. A refused call leaves every byte of the image as it was, and every entry of the counts. A call that takes the
+ * image as const never writes it.
  *
  * The host must ensure three things. `image` points to `length` bytes and is not a null pointer, not even where
  * `length` is 0. The same holds of `counts` and its `entries` numbers, which are aligned and share no byte with the

@@ -1,7 +1,4 @@
--- First the rules of a subject, read from the bytes of all subjects' rows. Then laws in the form in which the code asks
--- questions 1 to 7. The definitions of the questions are those of `model`.
-pub mod SubjectRows
-pub mod Layouts
+-- Laws in the form in which the code asks questions 1 to 7. The definitions of the questions are those of `model`.
 pub mod Zeros
 pub mod Rules
 pub mod Passes

@@ -11,7 +11,14 @@ use Rattle.model.specs.Image.{line_key, everyone_kind}
 use Rattle.model.specs.Calls.{rows_of, rows_before}
 use Rattle.laws.specs.Tests.{lt_eq_gt}
 use Rattle.laws.specs.Sorted.{index_counts}
-use Rattle.asking.specs.Found.{lowest, beyond}
+
+-- the lowest key that a line of list a can have
+abbrev pub lowest : ℕ → List ℕ
+lowest a = a ∷ 0 ∷ 0 ∷ []
+
+-- a key higher than those of all lines of list a, and lower than those of the next list's: there is no such kind
+abbrev pub beyond : ℕ → List ℕ
+beyond a = a ∷ 4 ∷ 0 ∷ []
 
 none_lower : (k s : ℕ) → before (k ∷ s ∷ []) (0 ∷ 0 ∷ []) ≡ false
 none_lower k s = rw (le-ltb k 0 (omega arith), le-ltb s 0 (omega arith), and-false, and-false)

@@ -1,5 +1,5 @@
-// The calls that ask. Each opens the image, then asks its own questions, and answers the number of the first question
-// answered no. A refused call has only read.
+//! The calls that ask. Each opens the image, then asks its own questions, and answers the number of the first question
+//! answered no. A refused call has only read.
 #![tactic(auto)]
 
 pub mod editor;

@@ -1,146 +1,112 @@
-// The questions of set grant and remove grant, after those of the image. Each call's function answers the refusal, or which
-// row the change is about.
-ghost use Rattle.std.specs.Prelude.{not, ◌||◌, [], ◌∷◌, ◌≡◌, eqb, ltb, take};
-ghost use Rattle.std.proofs.Math.Option.{some};
+//! The questions of set grant and remove grant, after those of the image: each call's function answers the refusal, or which
+//! row the change is about.
+
+#![tactic(auto, unfolding(model::specs::Questions::questions), using(laws::specs::Opens::unless_no, laws::specs::Opens::unless_yes, laws::specs::Answers::asked_no, laws::specs::Answers::asked_yes, laws::specs::Answers::asked_all, laws::specs::Answers::tested_no, laws::specs::Answers::tested_yes, tables::specs::AnswerLaws::at_index, tables::specs::AnswerLaws::key_is_there, tables::specs::AnswerLaws::key_missing, tables::specs::AnswerLaws::index_found, tables::specs::AnswerLaws::row_index_found, crate::specs::Questions::no_role, crate::specs::Questions::a_role, crate::specs::Questions::set_found, crate::specs::Questions::remove_found,))]
+
+ghost use Rattle.std.specs.Prelude.{not, ◌||◌, [], ◌∷◌, ◌≡◌, eqb, take, Some};
 ghost use Rattle.model.specs.Lists.{is_there};
 ghost use Rattle.model.specs.Sorted.{insertion_index};
 ghost use Rattle.model.specs.WhoAndWhat.{custodian};
-ghost use Rattle.model.specs.Image.{capacities_by, grant_key};
+ghost use Rattle.model.specs.Image.{grant_key};
 ghost use Rattle.model.specs.Calls.Change.{set_grant, remove_grant};
-ghost use Rattle.model.specs.Questions.{questions, first_no, given_by};
-ghost use Rattle.search.specs.RowIndices.{is_existing, row_index};
-ghost use Rattle.store.specs.Stores.{storing, removing, storing_number, removing_number};
-ghost use Rattle.search.specs.Answers.{grant_answer};
-ghost use Rattle.model.specs.Lent.{tables_at};
+ghost use Rattle.model.specs.Questions.{questions, first_no, given_by, by_number, refused_by, unless};
+ghost use Rattle.rows.specs.Found.{found_by};
+ghost use Rattle.tables.specs.RowIndices.{row_index};
 
-use model::{CUSTODIAN, GrantRow, Layout, Privileges, Role, Subject, refusal};
-use search::RowIndex;
-use search::grants::{FoundGrant, search_grant};
-use store::{Removing, Storing};
-use tables::free::grant_free;
-use tables::subjects::{in_tree, subject_used};
+use model::{CUSTODIAN, GrantRow, Privileges, Refusal, Role, Subject};
+use rows::key::GrantKey;
+use tables::{RowIndex, Tables};
 
-// Set grant: the refusal, or the row index at which the grant is stored.
-pub fn set_grant_storing(
-    image: &[u8],
-    layout: Layout,
+/// Where the grant is stored.
+pub fn ask_set_grant(
+    tables: &Tables<'_>,
     caller: Subject,
     receiver: Subject,
     role: Role,
     domain: Subject,
     privileges: Privileges,
-) -> Storing
-    ensures value { let t = tables_at layout image.entry in
-        result ≡ storing (first_no (questions t (set_grant caller.0 receiver.0 role.0 domain.0 privileges)))
+) -> Result<RowIndex, Refusal>
+    ensures value { let t = tables.now in
+        by_number result ≡ unless (first_no (questions t (set_grant caller.0 receiver.0 role.0 domain.0 privileges)))
         (row_index grant_key (receiver.0 ∷ role.0 ∷ []) t.grants) }
-    ensures number { let t = tables_at layout image.entry in
-        storing_number result ≡ first_no (questions t (set_grant caller.0 receiver.0 role.0 domain.0 privileges)) }
+    ensures number { let t = tables.now in
+        refused_by result ≡ first_no (questions t (set_grant caller.0 receiver.0 role.0 domain.0 privileges)) }
 {
-    let number = named_refusal(image, layout, caller, receiver, role, domain, privileges);
-    if number != 0 {
-        return Storing::Refused(number);
+    if !tables.subject_used(caller) {
+        return Err(Refusal::UnknownCaller);
     }
-    if !in_tree(image, layout, caller, domain) {
-        return Storing::Refused(refusal::OUTSIDE_TREE);
+    if !tables.subject_used(receiver) {
+        return Err(Refusal::UnknownSubject);
     }
-    let found = search_grant(image, layout, receiver, role);
+    if !tables.subject_used(domain) {
+        return Err(Refusal::UnknownSubject);
+    }
+    if role.0 == 0 {
+        return Err(Refusal::OutOfRange);
+    }
+    if !tables.in_tree(caller, domain) {
+        return Err(Refusal::OutsideTree);
+    }
+    let found = tables
+        .rows::<GrantRow>()
+        .search(GrantKey { receiver, role });
     if !may_set(found, caller) {
-        return Storing::Refused(refusal::NOT_THE_GRANTOR);
+        return Err(Refusal::NotTheGrantor);
     }
-    let index = found.row_index();
-    if !has_row_for(layout, index) {
-        return Storing::Refused(refusal::TABLE_FULL);
+    let index = RowIndex::from(found);
+    if !tables.has_room::<GrantRow>(index) {
+        return Err(Refusal::TableFull);
     }
-    Storing::At(index)
+    Ok(index)
 }
 
-// The questions of set grant about the numbers that it is handed: 10, 11 for the receiver and for the domain, and 14.
-fn named_refusal(
-    image: &[u8],
-    layout: Layout,
+/// The index of the row to remove.
+pub fn ask_remove_grant(
+    tables: &Tables<'_>,
     caller: Subject,
     receiver: Subject,
     role: Role,
-    domain: Subject,
-    privileges: Privileges,
-) -> u32
-    ensures { let t = tables_at layout image.entry in
-        result ≡ first_no (take 4 (questions t (set_grant caller.0 receiver.0 role.0 domain.0 privileges))) }
-{
-    if !subject_used(image, layout, caller) {
-        return refusal::UNKNOWN_CALLER;
-    }
-    if !subject_used(image, layout, receiver) {
-        return refusal::UNKNOWN_SUBJECT;
-    }
-    if !subject_used(image, layout, domain) {
-        return refusal::UNKNOWN_SUBJECT;
-    }
-    if role.0 == 0 {
-        return refusal::OUT_OF_RANGE;
-    }
-    0
-}
-
-// Remove grant: the refusal, or the index of the row to remove.
-pub fn remove_grant_removing(
-    image: &[u8],
-    layout: Layout,
-    caller: Subject,
-    receiver: Subject,
-    role: Role,
-) -> Removing
-    ensures value { let t = tables_at layout image.entry in
-        result ≡ removing (first_no (questions t (remove_grant caller.0 receiver.0 role.0)))
+) -> Result<u32, Refusal>
+    ensures value { let t = tables.now in
+        by_number result ≡ unless (first_no (questions t (remove_grant caller.0 receiver.0 role.0)))
         (insertion_index grant_key (receiver.0 ∷ role.0 ∷ []) t.grants) }
-    ensures number { let t = tables_at layout image.entry in
-        removing_number result ≡ first_no (questions t (remove_grant caller.0 receiver.0 role.0)) }
+    ensures number { let t = tables.now in
+        refused_by result ≡ first_no (questions t (remove_grant caller.0 receiver.0 role.0)) }
 {
-    if !subject_used(image, layout, caller) {
-        return Removing::Refused(refusal::UNKNOWN_CALLER);
+    if !tables.subject_used(caller) {
+        return Err(Refusal::UnknownCaller);
     }
-    if !subject_used(image, layout, receiver) {
-        return Removing::Refused(refusal::UNKNOWN_SUBJECT);
+    if !tables.subject_used(receiver) {
+        return Err(Refusal::UnknownSubject);
     }
     if role.0 == 0 {
-        return Removing::Refused(refusal::OUT_OF_RANGE);
+        return Err(Refusal::OutOfRange);
     }
-    let found = search_grant(image, layout, receiver, role);
-    let FoundGrant::At(n, grant) = found else {
-        return Removing::Refused(refusal::NO_SUCH_ROW);
+    let found = tables
+        .rows::<GrantRow>()
+        .search(GrantKey { receiver, role });
+    let Ok((n, grant)) = found else {
+        return Err(Refusal::NoSuchRow);
     };
     if !may_remove(grant, caller) {
-        return Removing::Refused(refusal::NOT_THE_GRANTOR);
+        return Err(Refusal::NotTheGrantor);
     }
-    Removing::Row(n)
+    Ok(n)
 }
 
 // Only its grantor may overwrite an existing row. A new row needs no such right.
-fn may_set(found: FoundGrant, caller: Subject) -> bool
-    ensures { let grant = (grant_answer found).row in result ≡ (not (is_there grant) || given_by caller.0 grant) }
+fn may_set(found: Result<(u32, GrantRow), u32>, caller: Subject) -> bool
+    ensures { let grant = (found_by found).row in result ≡ (not (is_there grant) || given_by caller.0 grant) }
 {
     match found {
-        FoundGrant::At(_, grant) => grant.grantor.0 == caller.0,
-        FoundGrant::Absent(_) => true,
+        Ok((_, grant)) => grant.grantor == caller,
+        Err(_) => true,
     }
-}
-
-// Only a new row needs a free row: an existing one is overwritten.
-fn has_row_for(layout: Layout, index: RowIndex) -> bool
-    ensures { result ≡ (is_existing index || ltb layout.grants.used (capacities_by layout).grants) }
-{
-    if index.is_existing() {
-        return true;
-    }
-    grant_free(layout)
 }
 
 // The grantor of a grant may remove it, and the custodian may remove any.
 fn may_remove(grant: GrantRow, caller: Subject) -> bool
-    ensures { result ≡ (given_by caller.0 (some grant) || eqb caller.0 custodian) }
+    ensures { result ≡ (given_by caller.0 (Some grant) || eqb caller.0 custodian) }
 {
-    if grant.grantor.0 == caller.0 {
-        return true;
-    }
-    caller.0 == CUSTODIAN
+    grant.grantor == caller || caller.0 == CUSTODIAN
 }

@@ -1,17 +1,24 @@
 -- The questions about a line, as the code asks them: first those about the numbers that a call is handed, then the others.
-use Rattle.std.specs.Prelude.{Bool, true, false, not, List, [], ◌∷◌, ◌≡◌, ℕ}
+use Rattle.std.specs.Prelude.{Bool, true, false, not, List, [], ◌∷◌, ◌≡◌, refl, ℕ, Result, Ok, Err}
+use Rattle.std.proofs.Common.{sym, ap, ◌∙◌}
+use Rattle.model.specs.declared.refusal.Refusal.{Refusal}
 use Rattle.model.specs.WhoAndWhat.{has}
-use Rattle.model.specs.Questions.{Question, ◌asks◌, first_no}
+use Rattle.model.specs.Questions.{Question, ◌asks◌, first_no, refusal_number, refused_by}
 use Rattle.laws.specs.Sets.{has_same}
+use Rattle.laws.specs.Opens.{refusal_not}
 use Rattle.laws.specs.Answers.{asked_no, asked_yes, first_left, first_right}
 
--- n is the refusal of the first four questions, or 0
-module _ (a b c d : Bool) (qs : List Question) (n : ℕ) (said : n ≡ first_no (10 asks a ∷ 11 asks b ∷ 13 asks c ∷ 14 asks d ∷ [])) where
-  pub named_no : (n ≡ 0 → ⊥) → n ≡ first_no (10 asks a ∷ 11 asks b ∷ 13 asks c ∷ 14 asks d ∷ qs)
-  named_no h = first_left (10 asks a ∷ 11 asks b ∷ 13 asks c ∷ 14 asks d ∷ []) qs n tt said h
+-- o is what the first four questions answer
+module _ {A : Type 0} (a b c d : Bool) (qs : List Question) (o : Result A Refusal)
+    (said : refused_by o ≡ first_no (10 asks a ∷ 11 asks b ∷ 13 asks c ∷ 14 asks d ∷ [])) where
+  abbrev named : List Question
+  named = 10 asks a ∷ 11 asks b ∷ 13 asks c ∷ 14 asks d ∷ []
 
-  pub named_yes : (r : ℕ) → n ≡ 0 → r ≡ first_no qs → r ≡ first_no (10 asks a ∷ 11 asks b ∷ 13 asks c ∷ 14 asks d ∷ qs)
-  named_yes r h e = first_right (10 asks a ∷ 11 asks b ∷ 13 asks c ∷ 14 asks d ∷ []) qs n tt said r h e
+  pub named_no : (e : Refusal) → o ≡ Err e → refusal_number e ≡ first_no (10 asks a ∷ 11 asks b ∷ 13 asks c ∷ 14 asks d ∷ qs)
+  named_no e case = first_left named qs (refusal_number e) tt (sym (ap refused_by case) ∙ said) (refusal_not e)
+
+  pub named_yes : (x : A) → o ≡ Ok x → (r : ℕ) → r ≡ first_no qs → r ≡ first_no (10 asks a ∷ 11 asks b ∷ 13 asks c ∷ 14 asks d ∷ qs)
+  named_yes x case r rest = first_right named qs 0 tt (sym (ap refused_by case) ∙ said) r refl rest
 
 -- 15: the position and the set are what the called functions answered
 module _ (p s q m : ℕ) (qs : List Question) (t : Bool) (said : t ≡ has p s) (needed : p ≡ q) (given : s ≡ m) where

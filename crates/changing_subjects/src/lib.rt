@@ -1,26 +1,21 @@
-// The call that changes subjects: define subject.
+//! The call that changes subjects.
 #![tactic(auto)]
 
 ghost use Rattle.std.specs.Prelude.{◌≡◌};
-ghost use Rattle.model.specs.Image.{tables_by, width_of, subject_format, subject_row};
 ghost use Rattle.model.specs.Calls.{new_privileges};
 ghost use Rattle.model.specs.Calls.Change.{define_subject};
-ghost use Rattle.model.specs.Questions.{act};
-ghost use Rattle.store.specs.Stores.{subjects_counter, with_row};
-ghost use Rattle.model.specs.Lent.{tables_at};
+ghost use Rattle.model.specs.Questions.{act, answer_of};
 
-use crate::questions::define_refusal;
+use crate::questions::ask_define_subject;
 use acceptance::open;
-use model::{
-    Answer, CUSTODIAN, Layout, Opened, Privileges, Role, Subject, SubjectRow, intersection,
-};
-use store::add_subject;
-use tables::subjects::privileges_of;
+use model::{Answer, CUSTODIAN, Privileges, Refusal, Role, Subject, SubjectRow, intersection};
+use store::add_row;
+use tables::Tables;
 
 mod questions;
 
-// Defines a subject below a parent. The result is its number. From the custodian it gets all privileges that the call
-// names, from another caller only those that the caller's own row has. A claimed role does not count here.
+/// Defines a subject below a parent. The result is its number. From the custodian it gets all privileges that the call
+/// names, from another caller only those that the caller's own row has. A claimed role does not count here.
 pub fn define_subject(
     image: &mut [u8],
     caller: Subject,
@@ -31,51 +26,34 @@ pub fn define_subject(
     ensures value { result ≡ (act image.old (define_subject caller.0 role.0 parent.0 privileges)).answer }
     ensures image_after { image.new ≡ (act image.old (define_subject caller.0 role.0 parent.0 privileges)).image }
 {
-    let opened = open(image);
-    let layout = match opened {
-        Opened::With(layout) => layout,
-        Opened::Refused(number) => {
-            return Answer::refused(number);
-        }
-    };
-    let refused = define_refusal(image, layout, caller, role, parent, privileges);
-    if refused != 0 {
-        return Answer::refused(refused);
-    }
-    add_defined(image, layout, caller, parent, privileges);
-    let table = layout.subjects;
-    Answer::done(table.used)
+    Answer::from(try_define_subject(image, caller, role, parent, privileges))
 }
 
-// Stores the new subject as the last row of its table.
-fn add_defined(
+fn try_define_subject(
     image: &mut [u8],
-    layout: Layout,
     caller: Subject,
+    role: Role,
     parent: Subject,
     privileges: Privileges,
-)
-    ensures { let t = tables_by layout image.old in
-        image.new
-        ≡ with_row (subject_format (width_of layout)) subjects_counter layout.subjects layout.subjects.used
-        (subject_row parent.0 (new_privileges t caller.0 privileges) caller.0) image.old }
+) -> Result<u32, Refusal>
+    ensures value { answer_of result ≡ (act image.old (define_subject caller.0 role.0 parent.0 privileges)).answer }
+    ensures image_after { image.new ≡ (act image.old (define_subject caller.0 role.0 parent.0 privileges)).image }
 {
-    let held = new_privileges(image, layout, caller, privileges);
-    add_subject(image, layout, SubjectRow::new(parent, held, caller));
+    let layout = open(image)?;
+    let tables = Tables::at(image, layout);
+    ask_define_subject(&tables, caller, role, parent, privileges)?;
+    let held = new_privileges(&tables, caller, privileges);
+    add_row(image, layout, SubjectRow::new(parent, held, caller));
+    Ok(layout.subjects.used)
 }
 
 // The privileges that the new subject gets: from the custodian all that the call names, from another caller only those in
 // the caller's own row. A claimed role lends nothing here.
-fn new_privileges(
-    image: &[u8],
-    layout: Layout,
-    caller: Subject,
-    privileges: Privileges,
-) -> Privileges
-    ensures { result ≡ new_privileges (tables_at layout image.entry) caller.0 privileges }
+fn new_privileges(tables: &Tables<'_>, caller: Subject, privileges: Privileges) -> Privileges
+    ensures { result ≡ new_privileges tables.now caller.0 privileges }
 {
     if caller.0 == CUSTODIAN {
         return privileges;
     }
-    intersection(privileges, privileges_of(image, layout, caller))
+    intersection(privileges, tables.privileges_of(caller))
 }

@@ -1,85 +1,56 @@
-// The questions of define subject, after those of the image.
-ghost use Rattle.std.specs.Prelude.{◌≡◌, take};
-ghost use Rattle.model.specs.Permission.{found_grant};
+//! The questions of define subject, after those of the image.
+#![tactic(auto, unfolding(model::specs::Questions::questions), using(laws::specs::Answers::asked_no, laws::specs::Answers::asked_yes, laws::specs::Answers::asked_all, crate::specs::Questions::right_claimed, crate::specs::Questions::reach_claimed,))]
+
+ghost use Rattle.std.specs.Prelude.{◌≡◌};
 ghost use Rattle.model.specs.Calls.Change.{define_subject};
-ghost use Rattle.model.specs.Questions.{first_no, questions, in_reach_under};
-ghost use Rattle.model.specs.Lent.{tables_at};
+ghost use Rattle.model.specs.Questions.{first_no, questions, in_reach_under, refused_by};
 
-use model::{
-    DEFINE_SUBJECT, Layout, Privileges, Role, SoughtGrant, Subject, has, needed_position, refusal,
-};
-use permission::decision::{grant_of, operations_under};
-use tables::free::subject_free;
-use tables::subjects::{in_tree, subject_used};
+use model::{DEFINE_SUBJECT, Privileges, Refusal, Role, Subject, SubjectRow, has, needed_position};
+use permission::decision::{Asker, grant_of};
+use tables::Tables;
 
-// The refusal, or 0 where every question is answered yes.
-pub fn define_refusal(
-    image: &[u8],
-    layout: Layout,
+pub fn ask_define_subject(
+    tables: &Tables<'_>,
     caller: Subject,
     role: Role,
     parent: Subject,
     privileges: Privileges,
-) -> u32
-    ensures { let t = tables_at layout image.entry in
-        result ≡ first_no (questions t (define_subject caller.0 role.0 parent.0 privileges)) }
+) -> Result<(), Refusal>
+    ensures { let t = tables.now in
+        refused_by result ≡ first_no (questions t (define_subject caller.0 role.0 parent.0 privileges)) }
 {
-    let number = named_refusal(image, layout, caller, role, parent, privileges);
-    if number != 0 {
-        return number;
+    if !tables.subject_used(caller) {
+        return Err(Refusal::UnknownCaller);
     }
-    let grant = grant_of(image, layout, caller, role);
-    if !has(
-        needed_position(DEFINE_SUBJECT),
-        operations_under(image, layout, caller, grant),
-    ) {
-        return refusal::NOT_PERMITTED;
+    if !tables.subject_used(parent) {
+        return Err(Refusal::UnknownSubject);
     }
-    if !in_reach(image, layout, caller, grant, parent) {
-        return refusal::OUTSIDE_TREE;
+    let asker = Asker {
+        tables,
+        subject: caller,
+        grant: grant_of(tables, caller, role),
+    };
+    if !has(needed_position(DEFINE_SUBJECT), asker.operations()) {
+        return Err(Refusal::NotPermitted);
     }
-    if !subject_free(layout) {
-        return refusal::TABLE_FULL;
+    if !in_reach(&asker, parent) {
+        return Err(Refusal::OutsideTree);
     }
-    0
-}
-
-// The questions about the numbers that the call is handed: 10 and 11.
-fn named_refusal(
-    image: &[u8],
-    layout: Layout,
-    caller: Subject,
-    role: Role,
-    parent: Subject,
-    privileges: Privileges,
-) -> u32
-    ensures { let t = tables_at layout image.entry in
-        result ≡ first_no (take 2 (questions t (define_subject caller.0 role.0 parent.0 privileges))) }
-{
-    if !subject_used(image, layout, caller) {
-        return refusal::UNKNOWN_CALLER;
+    if !tables.has_free::<SubjectRow>() {
+        return Err(Refusal::TableFull);
     }
-    if !subject_used(image, layout, parent) {
-        return refusal::UNKNOWN_SUBJECT;
-    }
-    0
+    Ok(())
 }
 
 // Whether the parent is in the caller's tree, or in the tree of the grantor of the claimed role.
-fn in_reach(
-    image: &[u8],
-    layout: Layout,
-    caller: Subject,
-    grant: SoughtGrant,
-    parent: Subject,
-) -> bool
-    ensures { result ≡ in_reach_under (tables_at layout image.entry) caller.0 (found_grant grant) parent.0 }
+fn in_reach(asker: &Asker<'_, '_>, parent: Subject) -> bool
+    ensures { result ≡ in_reach_under asker.now.tables.now asker.now.subject.0 asker.now.grant parent.0 }
 {
-    if in_tree(image, layout, caller, parent) {
+    if asker.tables.in_tree(asker.subject, parent) {
         return true;
     }
-    match grant {
-        SoughtGrant::Grant(row) => in_tree(image, layout, row.grantor, parent),
-        SoughtGrant::NoGrant => false,
+    match asker.grant {
+        Some(held) => asker.tables.in_tree(held.grantor, parent),
+        None => false,
     }
 }

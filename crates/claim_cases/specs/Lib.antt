@@ -1,4 +1,4 @@
--- The claim of demand 3 with one clause left out. With none left out it is demand 3.
+-- The claim on strangers with one clause left out. With none left out it is that claim.
 pub mod Without
 pub mod Insiders
 pub mod Whole

@@ -1,8 +1,7 @@
 -- Trials: tables, calls and a question, tried by computation. If the calls change the set, and all clauses hold but for the
 -- one left out, the trial refutes the claim without that clause.
-use Rattle.std.specs.Prelude.{Bool, false, ◌&&◌, ◌||◌, not, List, ◌≢◌, ◌≡◌, refl, ℕ, ◌<◌, ◌^◌, T, eqb}
+use Rattle.std.specs.Prelude.{Bool, false, ◌&&◌, ◌||◌, not, List, ◌≢◌, ◌≡◌, refl, ℕ, ◌<◌, ◌^◌, T, eqb, None, Option, Some}
 use Rattle.std.proofs.Common.{inl, inr, sym, ◌∙◌}
-use Rattle.std.proofs.Math.Option.{Option, none, some}
 use Rattle.std.proofs.Math.Dec.{ltb, ltb→lt, eqb→eq}
 use Rattle.model.specs.declared.GrantRow.{GrantRow}
 use Rattle.std.specs.List.{AllByRecursion}
@@ -65,8 +64,8 @@ module _ (left_out : Clause) where
 
   -- the claimed role has a grant, and its grantor makes no call
   abbrev silent : List Change → Option GrantRow → Bool
-  silent added none = or_if (same_clause left_out Clause.role_granted) false
-  silent added (some g) = or_if (same_clause left_out Clause.grantor_silent) (every (λ c. not (eqb (caller_of c) g.grantor.0)) added)
+  silent added None = or_if (same_clause left_out Clause.role_granted) false
+  silent added (Some g) = or_if (same_clause left_out Clause.grantor_silent) (every (λ c. not (eqb (caller_of c) g.grantor.0)) added)
 
   abbrev claim_but : Tables → ℕ → List Change → ℕ → Bool
   claim_but t asker added role = eqb role 0 || silent added (grant_of t asker role)
@@ -106,8 +105,8 @@ module _ (left_out : Clause) where
       left (no d) h = absurd h
 
       grant : (o : Option GrantRow) → grant_of t asker role ≡ o → T (silent added o) → ClaimBut left_out t asker added role
-      grant none e h = not_granted e (left (same_clause left_out Clause.role_granted) h)
-      grant (some g) e h =
+      grant None e h = not_granted e (left (same_clause left_out Clause.role_granted) h)
+      grant (Some g) e h =
           granted g e
           (λ d.
           all_map (λ c. unequal (caller_of c) g.grantor.0) added

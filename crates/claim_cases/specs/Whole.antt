@@ -1,4 +1,4 @@
--- With nothing left out, the claim is demand 3: both cover the same cases. So the claim holds too.
+-- With nothing left out, the claim is the one on strangers: both cover the same cases. So the claim holds too.
 use Rattle.std.specs.Prelude.{Bool, true, false, not, cond, List, [], ◌∷◌, ◌≢◌, ◌≡◌, ℕ, T}
 use Rattle.std.specs.List.{AllByRecursion}
 use Rattle.model.specs.WhoAndWhat.{edit_list, has}

@@ -1,7 +1,6 @@
--- The claim of demand 3 with one of its clauses left out. The definitions are those of `strangers`, clause by clause in
+-- The claim on strangers with one of its clauses left out. The definitions are those of `strangers`, clause by clause in
 -- their order. Each asks what its clause asks, unless that clause is the one left out.
-use Rattle.std.specs.Prelude.{cond, List, [], ◌∷◌, ◌++◌, ◌≢◌, ◌≡◌, ℕ, T}
-use Rattle.std.proofs.Math.Option.{none, some}
+use Rattle.std.specs.Prelude.{cond, List, [], ◌∷◌, ◌++◌, ◌≢◌, ◌≡◌, ℕ, T, None, Some}
 use Rattle.model.specs.declared.GrantRow.{GrantRow}
 use Rattle.std.specs.List.{AllByRecursion}
 use Rattle.model.specs.WhoAndWhat.{edit_list, has}
@@ -76,10 +75,10 @@ module _ (left_out : Clause) where
   pub data ClaimBut (t : Tables) (asker : ℕ) (added : List Change) : ℕ → Type 0 where
     no_role : ClaimBut t asker added 0
     granted : {r : ℕ} (g : GrantRow)
-        → grant_of t asker r ≡ some g
+        → grant_of t asker r ≡ Some g
         → (left_out ≢ Clause.grantor_silent → AllByRecursion (λ c. caller_of c ≢ g.grantor.0) added)
         → ClaimBut t asker added r
-    not_granted : {r : ℕ} → grant_of t asker r ≡ none → left_out ≡ Clause.role_granted → ClaimBut t asker added r
+    not_granted : {r : ℕ} → grant_of t asker r ≡ None → left_out ≡ Clause.role_granted → ClaimBut t asker added r
 
   pub record CoveredBut (stop : List ℕ) (second : List Step) (asker role document : ℕ) : Type 0 where
     pub asker_there : left_out ≢ Clause.asker_present → T (subject_used (tables stop).subjects asker)

@@ -1,4 +1,4 @@
--- What the edits do to a list of bytes. The first three are defined for every offset: what does not fit changes nothing.
+-- What the edits do to a list of bytes. They are defined for every offset: what does not fit changes nothing.
 use Rattle.std.specs.Prelude.{cond, List, ◌++◌, ℕ, ◌+◌, ◌-◌, length, take, drop, replicate, leb}
 
 -- new written over the bytes from offset at on
@@ -12,7 +12,3 @@ insert_bytes s at row = cond (leb (at + length row) (length s)) (take at s ++ ro
 -- n bytes removed at an offset: the bytes behind them move down, and the freed bytes at the end are zero
 unfoldable pub remove_bytes : List ℕ → ℕ → ℕ → List ℕ
 remove_bytes s at n = cond (leb (at + n) (length s)) (take at s ++ drop (at + n) s ++ replicate n 0) s
-
--- the bytes from offset at on, except the last n, copied n bytes further up; the bytes below offset at + n are unchanged
-abbrev pub raised : List ℕ → ℕ → ℕ → List ℕ
-raised s n at = take (at + n) s ++ drop at (take (length s - n) s)

@@ -1,5 +1,4 @@
-// Works on bytes that a caller lends: reads and writes a number, and replaces, inserts and removes bytes. Nothing here
-// knows what a row means.
+//! Numbers, and rows of any length, in bytes that a caller lends; nothing here knows what a row means.
 #![tactic(auto)]
 
 pub mod edits;

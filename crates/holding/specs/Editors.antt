@@ -1,24 +1,18 @@
 -- The editor search: subjects are tried one after the other, from the first after the custodian; and whether a subject may edit.
-use Rattle.std.specs.Prelude.{Bool, true, false, not, ◌&&◌, cond, List, ◌≡◌, ℕ, ◌+◌, ◌<◌, ◌≤◌, length}
+use Rattle.std.specs.Prelude.{Bool, true, false, not, ◌&&◌, cond, ◌≡◌, ℕ, ◌+◌, ◌<◌, ◌≤◌, length, Option, None, Some, option_map, unwrap_or}
 use Rattle.std.proofs.Common.{inl, inr, ◌∙◌, arith, ne_eqb, eq-eqb}
-use Rattle.std.proofs.Math.Option.{none, some, get_or}
 use Rattle.std.proofs.Math.Path.{sym}
 use Rattle.std.proofs.lemmas.Bool.{not-true, not-false}
 use Rattle.model.specs.declared.ItemRow.{ItemRow}
-use Rattle.model.specs.declared.Layout.{Layout}
 use Rattle.model.specs.declared.Subject.{Subject}
 use Rattle.model.specs.Lists.{is_there}
 use Rattle.model.specs.WhoAndWhat.{edit_list, has}
-use Rattle.model.specs.Image.{Tables, width_of, subject_format, tables_by, privileges_in, item_in}
+use Rattle.model.specs.Image.{Tables, privileges_in, item_in}
 use Rattle.model.specs.Permission.{part_on, folder_on, leads_up, permission_set}
 use Rattle.model.specs.Calls.{is_editor, lowest_editor}
 use Rattle.laws.specs.Tests.{lt_eq_gt}
 use Rattle.laws.specs.Counts.{none_lowest, some_lowest}
-use Rattle.laws.specs.Rows.{rows_count}
 use Rattle.permission.specs.Sets.{set_has}
-use Rattle.holding.specs.declared.editors.SoughtEditor.{SoughtEditor}
-use Rattle.holding.specs.declared.editors.SoughtEditor.TheVariants.{Editor, Nobody}
-use Rattle.holding.specs.Found.{found_editor}
 
 module _ (t : Tables) (a : ℕ) where
   -- no subject below n is an editor
@@ -40,7 +34,7 @@ module _ (t : Tables) (a : ℕ) where
           let other : n ≡ 0 → ⊥ = λ z. omega (arith, tried.after_custodian) in
           rw (ne_eqb n 0 other) (sym asked)
 
-      pub tried_here : b ≡ true → some n ≡ lowest_editor t a
+      pub tried_here : b ≡ true → Some n ≡ lowest_editor t a
       unfolding lowest_editor
       tried_here e =
           sym
@@ -58,26 +52,21 @@ module _ (t : Tables) (a : ℕ) where
                 | inr (inr high) ↦ absurd (omega arith)
               ]
 
-    pub tried_all : u ≤ n → none ≡ lowest_editor t a
+    pub tried_all : u ≤ n → None ≡ lowest_editor t a
     unfolding lowest_editor
     tried_all h = sym (none_lowest (is_editor t a) (length t.subjects) (λ s l. tried.passed s (omega arith)))
 
   -- question 20 and the result, by what the search answered
-  module _ (x : SoughtEditor) (found : found_editor x ≡ lowest_editor t a) where
-    pub editor_none : x ≡ Nobody → is_there (lowest_editor t a) ≡ false
+  module _ (x : Option Subject) (found : option_map (λ (s : Subject). s.0) x ≡ lowest_editor t a) where
+    pub editor_none : x ≡ None → is_there (lowest_editor t a) ≡ false
     editor_none is = rw (← found, is)
 
-    module _ (s : Subject) (is : x ≡ Editor s) where
+    module _ (s : Subject) (is : x ≡ Some s) where
       pub editor_there : is_there (lowest_editor t a) ≡ true
       editor_there = rw (← found, is)
 
-      pub editor_named : s.0 ≡ get_or (lowest_editor t a) 0
+      pub editor_named : s.0 ≡ unwrap_or (lowest_editor t a) 0
       editor_named = rw (← found, is)
-
--- the subjects' table has as many rows as the layout says are in use
-pub subjects_used : (lay : Layout) (img : List ℕ) → lay.subjects.used ≡ length (tables_by lay img).subjects
-unfolding tables_by
-subjects_used lay img = sym (rows_count (subject_format (width_of lay)) lay.subjects img)
 
 -- Whether s may edit list a, whose row is x. One test after the other: the position must be in its own row, in the lines' part and,
 -- where a folder f applies, in the folder's permission set.

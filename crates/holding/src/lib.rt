@@ -1,4 +1,4 @@
-// What all subjects hold on one item without a role. They are taken one after the other. No function checks the image.
+//! What all subjects hold on one item without a role; they are taken one after the other, for the tables of any image.
 #![tactic(auto)]
 
 pub mod counts;

@@ -1,20 +1,21 @@
 -- What a call that writes leaves. A refused call leaves the bytes as they were. A call that is done leaves the bytes of the
 -- tables that its rule gives. If the image was accepted before the call, it is accepted afterwards.
-use Rattle.std.specs.Prelude.{Bool, true, false, List, [], ◌∷◌, ◌++◌, ◌≢◌, ◌≡◌, refl, ℕ, suc, ◌<◌, T, eqb, get_or}
-use Rattle.std.proofs.Common.{sym, ◌∙◌, arith, Fits, eqb-true, ne_eqb}
+use Rattle.std.specs.Prelude.{Result, Ok, Err, IsErrAnd, Bool, true, false, List, [], ◌∷◌, ◌++◌, ◌≢◌, ◌≡◌, refl, ℕ, suc, ◌<◌, T, eqb, get_or}
+use Rattle.std.proofs.Common.{sym, ap, ◌∙◌, arith, Fits, eqb-true, ne_eqb}
 use Rattle.std.specs.Int.{w8}
 use Rattle.std.proofs.lemmas.Bool.{eqb-false}
 use Rattle.model.specs.declared.Answer.{Answer}
 use Rattle.model.specs.declared.Layout.{Layout}
-use Rattle.model.specs.declared.Opened.{Opened}
-use Rattle.model.specs.declared.Opened.TheVariants.{With, Refused}
+use Rattle.model.specs.declared.refusal.Refusal.{Refusal}
 use Rattle.model.specs.Lists.{Bytes}
 use Rattle.model.specs.Image.{Tables, tables_by, tables, encode}
 use Rattle.model.specs.Calls.{Change, Handed, after, change_result}
 use Rattle.model.specs.Calls.Change.{define_subject, set_grant, remove_grant, set_line, remove_line, create_item, bind, hand_over}
-use Rattle.model.specs.Questions.{image_questions, questions, first_no, answer, check, opened, Accepted, act}
+use Rattle.model.specs.Questions.{Question, image_questions, questions, first_no, answer, check, opened, opened_tables, Accepted, act}
+use Rattle.model.specs.Questions.{refusal_number, by_number, refused_by, answer_of}
 use Rattle.laws.specs.WellFormed.{WellFormed, fitting, Passed}
 use Rattle.laws.specs.Answers.{numbered, call_checked, call_passed}
+use Rattle.laws.specs.Opens.{handed_on, refusal_not, tables_err, tables_ok}
 use Rattle.laws.specs.Asks.{result_image, result_no, result_done, number_said}
 use Rattle.laws.specs.Kept.{well_formed_after}
 use Rattle.laws.specs.Back.{tables_well_formed}
@@ -88,53 +89,73 @@ module _ (img : List ℕ) (c : Change) (handed : Handed c) (accepted : Accepted 
           rw (done_tables done) (by-rule (tables_well_formed img accepted) (done_passed img c done))
       go false e = rw (refused_keeps img c (eqb-false (act img c).answer.number 0 e)) before
 
--- A call that writes, with one law for each way in which its code returns. First the answer a: the image is refused, one of the
--- call's own questions is answered no, or the call is done. o is what opening the image answered, k what the call's own
--- questions answered: their first no, or 0.
+-- A call that writes, with one law for each way in which its code returns: the answer, and the image afterwards, which follows
+-- from the answer. The image is refused, one of the call's own questions is answered no, or the call is done. o is what
+-- opening the image answered.
 
-module _ (img : List ℕ) (o : Opened) (is : o ≡ opened img) (c : Change) (a : Answer) where
-  pub act_image : (n : ℕ) → o ≡ Refused n → a ≡ answer n 0 → a ≡ (act img c).answer
+abbrev pub Settled : List ℕ → Change → Answer → List ℕ → Type 0
+Settled img c a new = (a ≡ (act img c).answer) × (new ≡ (act img c).image)
+
+-- r is what the exit of a `?` returns where o holds a refusal
+pub act_handed : {A : Type 0} (img : List ℕ) (c : Change) (o : Result A Refusal) (e : Refusal) → o ≡ Err e
+    → (r : Result ℕ Refusal) → IsErrAnd r (λ given. given ≡ e)
+    → Settled img c (answer (refusal_number e) 0) img
+    → Settled img c (answer_of r) img
+act_handed img c o e case r gave settled = (ap answer_of (handed_on o e case r gave) ∙ settled.0, settled.1)
+
+module _ (img : List ℕ) (o : Result Layout Refusal) (is : by_number o ≡ opened img) (c : Change) where
+  abbrev own : Tables → List Question
+  own t = questions t c
+
+  act_kept : (e : Refusal) → answer (refusal_number e) 0 ≡ (act img c).answer → Settled img c (answer (refusal_number e) 0) img
+  act_kept e so = (
+    so,
+    sym (refused_keeps img c (λ z. refusal_not e (sym (number_said (act img c).answer (refusal_number e) 0 so) ∙ z))),
+  )
+
+  pub act_image : (e : Refusal) → o ≡ Err e → Settled img c (answer (refusal_number e) 0) img
   unfolding act
-  act_image n case e = e ∙ result_image img o is (λ t. questions t c) (λ t. change_result t c) n case
+  act_image e case =
+      act_kept e (result_image img (Err e) (tables_err img o is e case) own (λ t. change_result t c) e refl)
 
-  module _ (lay : Layout) (case : o ≡ With lay) where
-    module _ (k : ℕ) (asked : k ≡ first_no (questions (tables_by lay img) c)) where
-      pub act_no : a ≡ answer k 0 → (k ≡ 0 → ⊥) → a ≡ (act img c).answer
-      unfolding act
-      act_no e bad = e ∙ result_no img o is (λ t. questions t c) (λ t. change_result t c) lay case k (ne_eqb k 0 bad) asked
+  module _ (lay : Layout) (case : o ≡ Ok lay) where
+    abbrev t : Tables
+    t = tables_by lay img
 
-      pub act_done : (v : ℕ) → a ≡ answer 0 v → k ≡ 0 → v ≡ change_result (tables_by lay img) c → a ≡ (act img c).answer
-      unfolding act
-      act_done v e done made-is =
-          e ∙ result_done img o is (λ t. questions t c) (λ t. change_result t c) lay case v (sym done ∙ asked) made-is
+    there : by_number (Ok t) ≡ opened_tables img
+    there = tables_ok img o is lay case t refl
 
-    -- the same, if it is known in another way that every question was answered yes
-    pub act_passed : (v : ℕ)
-        → a ≡ answer 0 v
+    pub act_no : (e : Refusal) → refusal_number e ≡ first_no (questions (tables_by lay img) c)
+        → Settled img c (answer (refusal_number e) 0) img
+    unfolding act
+    act_no e h = act_kept e (result_no img (Ok t) there own (λ t. change_result t c) t refl e h)
+
+    -- the same by what the call's questions answered
+    pub act_asked : {A : Type 0} (asked : Result A Refusal) → refused_by asked ≡ first_no (questions (tables_by lay img) c)
+        → (e : Refusal) → asked ≡ Err e
+        → Settled img c (answer (refusal_number e) 0) img
+    act_asked asked said e was = act_no e (sym (ap refused_by was) ∙ said)
+
+    pub act_done : (v : ℕ)
         → first_no (questions (tables_by lay img) c) ≡ 0
         → v ≡ change_result (tables_by lay img) c
-        → a ≡ (act img c).answer
-    act_passed = act_done (first_no (questions (tables_by lay img) c)) refl
+        → answer 0 v ≡ (act img c).answer
+    unfolding act
+    act_done v h f = result_done img (Ok t) there own (λ t. change_result t c) t refl v (sym h) f
 
--- Then the image afterwards, which follows from the answer.
-module _ (img : List ℕ) (c : Change) (a : Answer) (answered-so : a ≡ (act img c).answer) where
-  pub kept : (k : ℕ) → a ≡ answer k 0 → (k ≡ 0 → ⊥) → img ≡ (act img c).image
-  kept k e bad =
-      let number : (act img c).answer.number ≡ k = number_said a (act img c).answer answered-so k 0 e in
-      sym (refused_keeps img c (λ z. bad (sym number ∙ z)))
+-- What is known where the answer is 0 and a result v.
+module _ (img : List ℕ) (c : Change) (v : ℕ) (so : answer 0 v ≡ (act img c).answer) where
+  number_done : (act img c).answer.number ≡ 0
+  number_done = number_said (act img c).answer 0 v so
 
-  module _ (v : ℕ) (e : a ≡ answer 0 v) where
-    number_done : (act img c).answer.number ≡ 0
-    number_done = number_said a (act img c).answer answered-so 0 v e
+  pub was_passed : Passed (questions (tables img) c)
+  was_passed = done_passed img c number_done
 
-    pub was_passed : Passed (questions (tables img) c)
-    was_passed = done_passed img c number_done
+  pub was_accepted : Bytes img → Accepted img
+  was_accepted bytes = record { bytes = bytes; checked = done_checked img c number_done }
 
-    pub was_accepted : Bytes img → Accepted img
-    was_accepted bytes = record { bytes = bytes; checked = done_checked img c number_done }
-
-    pub leaves : (new : List ℕ) → new ≡ encode (after (tables img) c) → new ≡ (act img c).image
-    leaves new left = left ∙ sym (done_leaves img c number_done)
+  pub leaves : (new : List ℕ) → new ≡ encode (after (tables img) c) → new ≡ (act img c).image
+  leaves new left = left ∙ sym (done_leaves img c number_done)
 
 -- A slice is a list of bytes: code knows that each of its numbers fits in 8 bits.
 pub slice_bytes : (s : List ℕ) → ((i : ℕ) → Fits w8 (get_or s i 0)) → Bytes s

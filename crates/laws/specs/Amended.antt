@@ -1,8 +1,7 @@
--- What document 02, P4, changes of equation 8 as printed: the rule for an owner who is named on the list, and nothing else. All of
+-- What the amendment changes of the rule as printed: the rule for an owner who is named on the list, and nothing else. All of
 -- this is about subject s on an item whose row is x, for any rows.
-use Rattle.std.specs.Prelude.{◌⊎◌, ◌≢◌, ◌≡◌, ℕ}
+use Rattle.std.specs.Prelude.{◌⊎◌, ◌≢◌, ◌≡◌, ℕ, None, Option, Some}
 use Rattle.std.proofs.Math.Logic.{inl, inr}
-use Rattle.std.proofs.Math.Option.{Option, none, some}
 use Rattle.std.proofs.Math.Path.{refl, ap}
 use Rattle.std.proofs.Common.{sym, ◌∙◌}
 use native.Mathlib.Omega.{arith}
@@ -48,8 +47,8 @@ module _ (t : Tables) (s : ℕ) (x : ItemRow) where
       go (group_line (parent_in t.subjects) t.lines s x.list.0) (sym (named_rule named) ∙ same ∙ named_printed named)
     where
       go : (o : Option LineRow) → OwnLine l ≡ rule_by GroupLine o NothingFound → ⊥
-      go none e = let number = ap rule_number e in omega arith
-      go (some h) e = let number = ap rule_number e in omega arith
+      go None e = let number = ap rule_number e in omega arith
+      go (Some h) e = let number = ap rule_number e in omega arith
 
   -- For anybody else the rule is as printed.
 
@@ -65,9 +64,9 @@ module _ (t : Tables) (s : ℕ) (x : ItemRow) where
           → (p : Option LineRow)
           → line_in t.lines x.list.0 itself_kind s ≡ p
           → (rule_on t s x ≡ printed_rule_on t s x) ⊎ ((l : LineRow) × NamedOwner t s x l)
-      go (some l) e p f = inl (rw (ne_eqb s 0 other, eq-eqb s x.owner.0 owns, e))
-      go none e none f = inl (rw (ne_eqb s 0 other, eq-eqb s x.owner.0 owns, e, f))
-      go none e (some l) f = inr (l, record { other = other; owns = owns; no_owner_line = e; own_line = f })
+      go (Some l) e p f = inl (rw (ne_eqb s 0 other, eq-eqb s x.owner.0 owns, e))
+      go None e None f = inl (rw (ne_eqb s 0 other, eq-eqb s x.owner.0 owns, e, f))
+      go None e (Some l) f = inr (l, record { other = other; owns = owns; no_owner_line = e; own_line = f })
 
   pub rule_amended : (rule_on t s x ≡ printed_rule_on t s x) ⊎ ((l : LineRow) × NamedOwner t s x l)
   unfolding deciding_rule printed_rule

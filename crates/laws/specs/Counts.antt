@@ -1,10 +1,10 @@
 -- Laws of counting: how many numbers pass a test, which is the lowest that does, and the list of what a function gives for each
 -- number.
-use Rattle.std.specs.Prelude.{Bool, List, ◌∷◌, ◌≡◌, length, get_or, replicate}
+use Rattle.std.specs.Prelude.{Bool, List, ◌∷◌, ◌≡◌, length, get_or, replicate, None, Option, Some}
+use Rattle.std.proofs.lemmas.Option.{none-some, same_Some}
 use Rattle.std.proofs.Math.Bool.{true, false, cond}
 use Rattle.std.proofs.lemmas.Bool.{false≢true}
 use Rattle.std.proofs.Math.Logic.{inl, inr}
-use Rattle.std.proofs.Math.Option.{Option, none, some, none-ne-some, some-injective}
 use Rattle.std.proofs.Math.Path.{refl}
 use Rattle.std.proofs.Common.{sym, ap, ◌∙◌}
 use Prim.Native.Nat.{ℕ, zero, suc, ◌<◌, ◌≤◌}
@@ -43,9 +43,9 @@ module _ (test : ℕ → Bool) where
   how_many_same also zero h = refl
   how_many_same also (suc n) h = rw (h n (omega arith), how_many_same also n (λ k l. h k (omega arith)))
 
-or_none : {A : Type 0} (a b : Option A) → or_else a b ≡ none → (a ≡ none) × (b ≡ none)
-or_none none b e = (refl, e)
-or_none (some x) b e = absurd (none-ne-some x (sym e))
+or_none : {A : Type 0} (a b : Option A) → or_else a b ≡ None → (a ≡ None) × (b ≡ None)
+or_none None b e = (refl, e)
+or_none (Some x) b e = absurd (none-some x (sym e))
 
 -- The lowest number that passes a test, said without a search.
 module _ (test : ℕ → Bool) where
@@ -55,46 +55,46 @@ module _ (test : ℕ → Bool) where
     pub no_lower : (j : ℕ) → j < k → test j ≡ false
 
   -- none is found exactly if no number below n passes
-  pub lowest_none : (n : ℕ) → lowest_passing test n ≡ none → (k : ℕ) → k < n → test k ≡ false
+  pub lowest_none : (n : ℕ) → lowest_passing test n ≡ None → (k : ℕ) → k < n → test k ≡ false
   unfolding lowest_passing
   lowest_none zero e k h = absurd (omega arith)
   lowest_none (suc n) e k h =
-      let both = or_none (lowest_passing test n) (cond (test n) (some n) none) e in
+      let both = or_none (lowest_passing test n) (cond (test n) (Some n) None) e in
       elim (lt_eq_gt k n) [
         | inl low ↦ lowest_none n both.0 k low
         | inr (inl here) ↦ rw here (failed (test n) both.1)
         | inr (inr high) ↦ absurd (omega arith)
       ]
     where
-      failed : (b : Bool) → cond b (some n) none ≡ none → b ≡ false
-      failed true f = absurd (none-ne-some n (sym f))
+      failed : (b : Bool) → cond b (Some n) None ≡ None → b ≡ false
+      failed true f = absurd (none-some n (sym f))
       failed false f = refl
 
-  pub none_lowest : (n : ℕ) → ((k : ℕ) → k < n → test k ≡ false) → lowest_passing test n ≡ none
+  pub none_lowest : (n : ℕ) → ((k : ℕ) → k < n → test k ≡ false) → lowest_passing test n ≡ None
   unfolding lowest_passing
   none_lowest zero h = refl
   none_lowest (suc n) h = rw (none_lowest n (λ k l. h k (omega arith)), h n (omega arith))
 
   -- k is found exactly if it is the lowest that passes
-  pub lowest_some : (n k : ℕ) → lowest_passing test n ≡ some k → Least n k
+  pub lowest_some : (n k : ℕ) → lowest_passing test n ≡ Some k → Least n k
   unfolding lowest_passing
-  lowest_some zero k e = absurd (none-ne-some k e)
+  lowest_some zero k e = absurd (none-some k e)
   lowest_some (suc n) k e = go (lowest_some n k) (lowest_passing test n) refl (test n) refl e
     where
-      go : (lowest_passing test n ≡ some k → Least n k)
+      go : (lowest_passing test n ≡ Some k → Least n k)
           → (o : Option ℕ) → lowest_passing test n ≡ o
           → (b : Bool) → test n ≡ b
-          → or_else o (cond b (some n) none) ≡ some k
+          → or_else o (cond b (Some n) None) ≡ Some k
           → Least (suc n) k
-      go before (some j) f b g e =
+      go before (Some j) f b g e =
           let it : Least n k = before (f ∙ e) in
           record { below = omega (arith, it.below); passes = it.passes; no_lower = it.no_lower }
-      go before none f true g e =
-          let here : n ≡ k = some-injective n k e in
+      go before None f true g e =
+          let here : n ≡ k = same_Some n k e in
           record { below = omega arith; passes = rw (← here) g; no_lower = λ j l. lowest_none n f j (omega arith) }
-      go before none f false g e = absurd (none-ne-some k e)
+      go before None f false g e = absurd (none-some k e)
 
-  pub some_lowest : (n k : ℕ) → Least n k → lowest_passing test n ≡ some k
+  pub some_lowest : (n k : ℕ) → Least n k → lowest_passing test n ≡ Some k
   unfolding lowest_passing
   some_lowest zero k it = absurd (omega (arith, it.below))
   some_lowest (suc n) k it =

@@ -1,9 +1,8 @@
--- Laws of folders (document 02, P7): what the sets of an item and of the folders that apply to it share. As for a climb, any number
+-- Laws of folders: what the sets of an item and of the folders that apply to it share. As for a climb, any number
 -- of allowed steps that is at least the item's number gives the same, so there is an equation without that number.
-use Rattle.std.specs.Prelude.{true, cond, List, ◌≡◌, T, length}
+use Rattle.std.specs.Prelude.{true, cond, List, ◌≡◌, T, length, Option}
 use Rattle.std.proofs.Math.Bool.{and-false}
 use Rattle.std.proofs.Math.Logic.{inl, inr}
-use Rattle.std.proofs.Math.Option.{Option}
 use Rattle.std.proofs.Math.Path.{refl}
 use Rattle.std.proofs.Common.{◌∙◌, arith, le-ltb, ltb→lt, lt→ltb}
 use Prim.Native.Nat.{ℕ, zero, suc, ◌<◌, ◌≤◌}

@@ -1,7 +1,6 @@
 -- What count holders leaves: if it is refused, the counts that it was lent; if it is done, for each position the number of subjects
 -- for which the permission set call answers a set with that position.
-use Rattle.std.specs.Prelude.{true, List, ◌++◌, ◌≢◌, ◌≡◌, ℕ, ◌<◌, ◌≤◌, T, eqb, length, get_or}
-use Rattle.std.proofs.Math.Option.{none}
+use Rattle.std.specs.Prelude.{true, List, ◌++◌, ◌≢◌, ◌≡◌, ℕ, ◌<◌, ◌≤◌, T, eqb, length, get_or, None}
 use Rattle.std.proofs.Common.{sym, lt→ltb}
 use Rattle.std.proofs.Math.Path.{ap}
 use borrow.Author.Tests.{eqb-true, ne_eqb}
@@ -25,14 +24,14 @@ use Rattle.laws.specs.Kept.{custodian_has}
 
 -- the custodian holds every position on every item: they are all in its own set there
 custodian_owns : (t : Tables) → WellFormed t → (n : ℕ) → n < positions_of (width_in t) → (i : ℕ)
-    → has n (own_under t custodian none i) ≡ true
+    → has n (own_under t custodian None i) ≡ true
 unfolding own_under operation_under object_under part_on deciding_rule everyone_set
 custodian_owns t well n h i =
     let all : has n (everything (width_in t)) ≡ true = has_everything (width_in t) n h in
     rw (custodian_has t well, has_and n, has_or n, all)
 
 custodian_holds : (t : Tables) → WellFormed t → (i n : ℕ) → n < positions_of (width_in t) → has n (permission_set t custodian 0 i) ≡ true
-custodian_holds t well i n h = permission_all t custodian none n (custodian_owns t well n h) i
+custodian_holds t well i n h = permission_all t custodian None n (custodian_owns t well n h) i
 
 module _ (img : List ℕ) (i : ℕ) (old : List ℕ) where
   pub refused_untouched : (count_holders img i old).answer.number ≢ 0 → (count_holders img i old).counts ≡ old

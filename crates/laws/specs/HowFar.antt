@@ -1,9 +1,8 @@
--- What a call that is done says of steps (document 02, P6), for any bytes and any numbers: how far it is from the subject up to the
+-- What a call that is done says of steps, for any bytes and any numbers: how far it is from the subject up to the
 -- root; in an explanation, from the item's owner up to the domain of the grant. In an accepted image each parent is lower than its
 -- subject, except for the custodian's, and there are fewer subjects than the number that stands for outside.
-use Rattle.std.specs.Prelude.{List, ◌⊎◌, ◌≡◌, refl}
+use Rattle.std.specs.Prelude.{List, ◌⊎◌, ◌≡◌, refl, None, Some}
 use Rattle.std.proofs.Math.Logic.{inl, inr}
-use Rattle.std.proofs.Math.Option.{none, some}
 use Rattle.std.proofs.Common.{ap, arith, eqb→eq}
 use Prim.Native.Nat.{ℕ, zero, suc, ◌*◌, ◌-◌, ◌<◌, ◌≤◌}
 use Rattle.std.proofs.Math.Nat.{mul-le-mul_left}
@@ -103,7 +102,7 @@ module _ (img : List ℕ) (s r i : ℕ) (done : (explain img s r i).number ≡ 0
   own = explain_questions (tables img) s i
 
   pub explained_steps : (g : GrantRow)
-      → grant_of (tables img) s r ≡ some g
+      → grant_of (tables img) s r ≡ Some g
       → HowFar (parent_in (tables img).subjects) row.owner.0 g.domain.0 (explain img s r i).steps
   unfolding explanation_under explain_questions image_questions
   explained_steps g held =
@@ -112,6 +111,6 @@ module _ (img : List ℕ) (s r i : ℕ) (done : (explain img s r i).number ≡ 0
       owner_used (tables img) (image_passed img checked).1.1.1.0 i (call_passed img own (not_refused img s r i done) tt).1.0 in
       rw (is_explanation img s r i done, held) (far img checked row.owner.0 g.domain.0 owned)
 
-  pub no_grant_explained : grant_of (tables img) s r ≡ none → (explain img s r i).steps ≡ outside
+  pub no_grant_explained : grant_of (tables img) s r ≡ None → (explain img s r i).steps ≡ outside
   unfolding explanation_under
   no_grant_explained missing = rw (is_explanation img s r i done, missing)

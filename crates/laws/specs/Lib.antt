@@ -12,7 +12,6 @@ pub mod Folders
 pub mod Numbered
 pub mod WellFormed
 pub mod Answers
-pub mod Cases
 pub mod Opens
 -- Then bytes and tables, for any width and any format: an accepted image is the bytes of its tables, and fitting tables are
 -- read back from their bytes.
@@ -39,5 +38,5 @@ pub mod Reasons
 pub mod Shared
 -- Then steps, which the call and an explanation answer.
 pub mod HowFar
--- Last what document 02, P4, changes of equation 8 as printed.
+-- Last what the amended rule for owners changes of the rule as printed.
 pub mod Amended

@@ -1,10 +1,9 @@
 -- Whom the editor search names, by what the permission set call answers: the lowest subject other than the custodian whose set on the
 -- list has the privilege to edit a list. If the search is refused with 20, no set but the custodian's has it.
-use Rattle.std.specs.Prelude.{Bool, ◌&&◌, not, List, [], ◌∷◌, ◌≢◌, ◌≡◌, ℕ, ◌<◌, eqb, length}
+use Rattle.std.specs.Prelude.{Bool, ◌&&◌, not, List, [], ◌∷◌, ◌≢◌, ◌≡◌, ℕ, ◌<◌, eqb, length, None, Option, Some, unwrap_or}
 use Rattle.std.proofs.Math.Bool.{true, false}
 use Rattle.std.proofs.lemmas.Bool.{false≢true}
 use Rattle.std.proofs.Math.Logic.{inl, inr}
-use Rattle.std.proofs.Math.Option.{Option, none, some, get_or}
 use Rattle.std.proofs.Math.Path.{refl, sym}
 use Rattle.std.proofs.Common.{◌∙◌, arith, eq-eqb, ne_eqb, lt→ltb}
 use Rattle.std.proofs.Math.Dec.{T}
@@ -61,9 +60,9 @@ module _ (img : List ℕ) (a : ℕ) where
     found = rw done (go (lowest_editor (tables img) a) refl passed.1.0)
       where
         go : (o : Option ℕ) → lowest_editor (tables img) a ≡ o → T (is_there o)
-            → Least (is_editor (tables img) a) (length (tables img).subjects) (get_or o 0)
-        go none e t = absurd t
-        go (some k) e t = lowest_some (is_editor (tables img) a) (length (tables img).subjects) k e
+            → Least (is_editor (tables img) a) (length (tables img).subjects) (unwrap_or o 0)
+        go None e t = absurd t
+        go (Some k) e t = lowest_some (is_editor (tables img) a) (length (tables img).subjects) k e
 
     -- whoever is named is in use, is not the custodian, and may edit the list; the permission set call for it is done
     pub named_used : named < length (tables img).subjects
@@ -112,12 +111,12 @@ module _ (img : List ℕ) (a : ℕ) where
         go true false e = (refl, refl)
         go false c e = absurd (omega arith)
 
-    nobody : lowest_editor (tables img) a ≡ none
+    nobody : lowest_editor (tables img) a ≡ None
     nobody = go (lowest_editor (tables img) a) said.1
       where
-        go : (o : Option ℕ) → is_there o ≡ false → o ≡ none
-        go none e = refl
-        go (some k) e = absurd (false≢true (sym e))
+        go : (o : Option ℕ) → is_there o ≡ false → o ≡ None
+        go None e = refl
+        go (Some k) e = absurd (false≢true (sym e))
 
     pub nobody_edits : (s : ℕ) → s < length (tables img).subjects → s ≢ custodian → edits s ≡ false
     unfolding lowest_editor

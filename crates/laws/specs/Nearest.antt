@@ -1,8 +1,8 @@
 -- What the group search meets in list a, in tables whose lines hold their rules: the group line of the nearest above s that has
 -- one, if there is one, and no other.
-use Rattle.std.specs.Prelude.{not, ◌≡◌, refl, ℕ, zero, suc, ◌<◌, ◌≤◌, T, eqb}
+use Rattle.std.specs.Prelude.{not, ◌≡◌, refl, ℕ, zero, suc, ◌<◌, ◌≤◌, T, eqb, None, Option, Some}
+use Rattle.std.proofs.lemmas.Option.{none-some}
 use Rattle.std.proofs.Common.{inl, inr, sym, ap, ◌∙◌, arith, lt-ltb, le-ltb, T_not}
-use Rattle.std.proofs.Math.Option.{Option, none, some, none-ne-some}
 use Rattle.std.proofs.Math.Dec.{eqb_refl}
 use Rattle.model.specs.declared.LineRow.{LineRow}
 use Rattle.model.specs.Lists.{or_else}
@@ -24,19 +24,19 @@ module _ (t : Tables) (hold : T (lines_hold t)) (a : ℕ) where
   -- What the search from s meets is none, and then nobody above s has a group line. Or it is a line l: s is below its subject,
   -- which has that line, and nobody between the two has one.
   abbrev pub Met : ℕ → Option LineRow → Type 0
-  Met s none = (p : ℕ) → T (below up p s) → group_of p ≡ none
-  Met s (some l) =
+  Met s None = (p : ℕ) → T (below up p s) → group_of p ≡ None
+  Met s (Some l) =
       T (below up l.subject.0 s)
-      × ((group_of l.subject.0 ≡ some l) × ((p : ℕ) → T (below up p s) → T (below up l.subject.0 p) → group_of p ≡ none))
+      × ((group_of l.subject.0 ≡ Some l) × ((p : ℕ) → T (below up p s) → T (below up l.subject.0 p) → group_of p ≡ None))
 
   -- the parent has a group line
-  met_parent : (s : ℕ) (l : LineRow) → up s < s → group_of (up s) ≡ some l → Met s (some l)
+  met_parent : (s : ℕ) (l : LineRow) → up s < s → group_of (up s) ≡ Some l → Met s (Some l)
   met_parent s l low e = (rw is (up_below up (up s) s low (own_tree up (up s))), (ap group_of is ∙ e, nearest))
     where
       is : l.subject.0 ≡ up s
       is = cc (found_key t hold a group_kind (up s) l e)
 
-      nearest : (p : ℕ) → T (below up p s) → T (below up l.subject.0 p) → group_of p ≡ none
+      nearest : (p : ℕ) → T (below up p s) → T (below up l.subject.0 p) → group_of p ≡ None
       nearest p above between =
           let under : T (below up (up s) p) = rw is at between in
           let lowest : up s ≤ p = tree_low up (up s) p (and_l (in_tree up (up s) p) (not (eqb p (up s))) under) in
@@ -44,13 +44,13 @@ module _ (t : Tables) (hold : T (lines_hold t)) (a : ℕ) where
           absurd (T_not (eqb p (up s)) (and_r (in_tree up (up s) p) (not (eqb p (up s))) under) (rw here (eqb_refl (up s))))
 
   -- the parent has none, so it is what the search meets above the parent
-  met_above : (s : ℕ) (o : Option LineRow) → up s < s → group_of (up s) ≡ none → Met (up s) o → Met s o
-  met_above s none low e rest = λ p above.
+  met_above : (s : ℕ) (o : Option LineRow) → up s < s → group_of (up s) ≡ None → Met (up s) o → Met s o
+  met_above s None low e rest = λ p above.
       elim (itself_or_below up p (up s) (below_up up p s above).1) [
         | inl here ↦ rw (← here) e
         | inr further ↦ rest p further
       ]
-  met_above s (some l) low e rest = (
+  met_above s (Some l) low e rest = (
     up_below up l.subject.0 s low (and_l (in_tree up l.subject.0 (up s)) (not (eqb (up s) l.subject.0)) rest.0),
     (
       rest.1.0,
@@ -82,8 +82,8 @@ module _ (t : Tables) (hold : T (lines_hold t)) (a : ℕ) where
           → group_of (up s) ≡ o
           → Met (up s) (group_line up t.lines (up s) a)
           → Met s (or_else o (group_line up t.lines (up s) a))
-      step low none e rest = met_above s (group_line up t.lines (up s) a) low e rest
-      step low (some l) e rest = met_parent s l low e
+      step low None e rest = met_above s (group_line up t.lines (up s) a) low e rest
+      step low (Some l) e rest = met_parent s l low e
 
   pub met : (s : ℕ) → Met s (group_line up t.lines s a)
   met s = met_within s s (omega arith)
@@ -94,9 +94,9 @@ module _ (t : Tables) (hold : T (lines_hold t)) (a : ℕ) where
   meets_within : (h n s : ℕ) (l : LineRow)
       → s ≤ n
       → T (below up h s)
-      → group_of h ≡ some l
-      → ((p : ℕ) → T (below up p s) → T (below up h p) → group_of p ≡ none)
-      → group_line up t.lines s a ≡ some l
+      → group_of h ≡ Some l
+      → ((p : ℕ) → T (below up p s) → T (below up h p) → group_of p ≡ None)
+      → group_line up t.lines s a ≡ Some l
   meets_within h zero s l enough b e nearest = absurd (omega (arith, (below_up up h s b).0))
   meets_within h (suc n) s l enough b e nearest =
       let over = below_up up h s b in
@@ -111,14 +111,14 @@ module _ (t : Tables) (hold : T (lines_hold t)) (a : ℕ) where
 
   pub meets : (h s : ℕ) (l : LineRow)
       → T (below up h s)
-      → group_of h ≡ some l
-      → ((p : ℕ) → T (below up p s) → T (below up h p) → group_of p ≡ none)
-      → group_line up t.lines s a ≡ some l
+      → group_of h ≡ Some l
+      → ((p : ℕ) → T (below up p s) → T (below up h p) → group_of p ≡ None)
+      → group_line up t.lines s a ≡ Some l
   meets h s l = meets_within h s s l (omega arith)
 
-  pub meets_none : (s : ℕ) → ((p : ℕ) → T (below up p s) → group_of p ≡ none) → group_line up t.lines s a ≡ none
+  pub meets_none : (s : ℕ) → ((p : ℕ) → T (below up p s) → group_of p ≡ None) → group_line up t.lines s a ≡ None
   meets_none s missing = go (group_line up t.lines s a) (met s)
     where
-      go : (o : Option LineRow) → Met s o → o ≡ none
-      go none m = refl
-      go (some l) m = absurd (none-ne-some l (sym (missing l.subject.0 m.0) ∙ m.1.0))
+      go : (o : Option LineRow) → Met s o → o ≡ None
+      go None m = refl
+      go (Some l) m = absurd (none-some l (sym (missing l.subject.0 m.0) ∙ m.1.0))

@@ -1,8 +1,7 @@
--- Explanations (document 02, P1). The fields, put together by document 01's rules, are the item's own set. The rule, the group and
+-- Explanations. The fields, put together by the rules, are the item's own set. The rule, the group and
 -- the rule's set say of the rows what decided, and no others would.
-use Rattle.std.specs.Prelude.{List, ◌++◌, ◌≢◌, ◌≡◌, ℕ, T}
+use Rattle.std.specs.Prelude.{List, ◌++◌, ◌≢◌, ◌≡◌, ℕ, T, None, Option, Some}
 use Rattle.std.proofs.Math.Logic.{inl, inr}
-use Rattle.std.proofs.Math.Option.{Option, none, some}
 use Rattle.std.proofs.Math.Path.{refl}
 use Rattle.std.proofs.Common.{◌∙◌}
 use borrow.Author.Tests.{eq-eqb, ne_eqb}
@@ -49,8 +48,8 @@ module _ (t : Tables) (hold : T (lines_hold t)) (s : ℕ) (x : ItemRow) where
     by_groups direct = go (group_line up t.lines s x.list.0) (met t hold x.list.0 s)
       where
         go : (o : Option LineRow) → Met t hold x.list.0 s o → Says (rule_by GroupLine o NothingFound)
-        go none m = by_nothing other direct (λ p above. absent t hold x.list.0 group_kind p (m p above))
-        go (some l) m =
+        go None m = by_nothing other direct (λ p above. absent t hold x.list.0 group_kind p (m p above))
+        go (Some l) m =
             by_group_line other direct m.0 (stands t hold x.list.0 group_kind l.subject.0 l m.1.0)
             (λ p above between. absent t hold x.list.0 group_kind p (m.1.1 p above between))
 
@@ -61,9 +60,9 @@ module _ (t : Tables) (hold : T (lines_hold t)) (s : ℕ) (x : ItemRow) where
         go : (o : Option LineRow)
             → line_in t.lines x.list.0 itself_kind s ≡ o
             → Says (rule_by OwnLine o (group_rule up t.lines s x.list.0))
-        go none e =
+        go None e =
             by_groups (record { no_owner_line = no_owner_line; no_own_line = absent t hold x.list.0 itself_kind s e })
-        go (some l) e = by_own_line other no_owner_line (stands t hold x.list.0 itself_kind s l e)
+        go (Some l) e = by_own_line other no_owner_line (stands t hold x.list.0 itself_kind s l e)
 
     by_owner : s ≡ x.owner.0 → Says (owner_rule up t.lines s x.list.0)
     unfolding owner_rule
@@ -72,8 +71,8 @@ module _ (t : Tables) (hold : T (lines_hold t)) (s : ℕ) (x : ItemRow) where
         go : (o : Option LineRow)
             → line_in t.lines x.list.0 owner_kind 0 ≡ o
             → Says (rule_by OwnerLine o (own_rule up t.lines s x.list.0))
-        go none e = by_own (λ is. absent t hold x.list.0 owner_kind 0 e)
-        go (some l) e = by_owner_line other owns (stands t hold x.list.0 owner_kind 0 l e)
+        go None e = by_own (λ is. absent t hold x.list.0 owner_kind 0 e)
+        go (Some l) e = by_owner_line other owns (stands t hold x.list.0 owner_kind 0 l e)
 
   pub decides : Decides t s x (rule_number (rule_on t s x)) (rule_group (rule_on t s x)) (rule_set_on t s x)
   unfolding deciding_rule
@@ -139,8 +138,8 @@ module _ (t : Tables) (hold : T (lines_hold t)) (s : ℕ) (x : ItemRow) where
       ]
     where
       go : s ≢ custodian → (o : Option LineRow) → line_in t.lines x.list.0 everyone_kind 0 ≡ o → Adds t s x (line_set o)
-      go other none e = no_everyones_line other (absent t hold x.list.0 everyone_kind 0 e)
-      go other (some l) e = by_everyones_line other (stands t hold x.list.0 everyone_kind 0 l e)
+      go other None e = no_everyones_line other (absent t hold x.list.0 everyone_kind 0 e)
+      go other (Some l) e = by_everyones_line other (stands t hold x.list.0 everyone_kind 0 l e)
 
 -- The call, for any bytes and any numbers. If it is not refused, its fields say what decided.
 module _ (img : List ℕ) (s r i : ℕ) where

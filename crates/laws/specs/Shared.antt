@@ -1,25 +1,24 @@
--- The permission set is what the explanations along the folders that apply share (document 02, P7). The argument: in an image that
+-- The permission set is what the explanations along the folders that apply share. The argument: in an image that
 -- passes the check an item's folder has a lower number, so the folder that an explanation names is in use, its explanation is not
 -- refused either, and the way ends.
-use Rattle.std.specs.Prelude.{true, List, ◌≢◌, ◌≡◌, ℕ, zero, suc, ◌<◌, ◌≤◌, T, length}
+use Rattle.std.specs.Prelude.{Ok, true, List, ◌≢◌, ◌≡◌, ℕ, zero, suc, ◌<◌, ◌≤◌, T, length}
 use Rattle.std.proofs.Common.{inl, inr, ◌∙◌, arith, eq-eqb, ne_eqb, lt-ltb, ltb→lt}
 use Rattle.std.proofs.Math.Path.{refl, sym, ap}
 use Rattle.model.specs.declared.Answer.{Answer}
 use Rattle.model.specs.declared.Explanation.{Explanation}
 use Rattle.model.specs.WhoAndWhat.{has, ◌∩◌}
 use Rattle.model.specs.Image.{Tables, tables, no_item, folder_flag, item_in, subject_used, item_used, item_rules}
-use Rattle.model.specs.Image.{items_hold, layout_of}
+use Rattle.model.specs.Image.{items_hold}
 use Rattle.model.specs.Permission.{grant_of, own_set, applied_folder, leads_up, permission_set, explanation_under}
 use Rattle.model.specs.Permission.{explanation, put_together}
 use Rattle.model.specs.Questions.{Question, image_questions, explain_questions, check, ask, explain}
 use Rattle.model.specs.Calls.Ask.{permission_set_of}
-use Rattle.model.specs.declared.Opened.TheVariants.{With}
 use Rattle.model.specs.Shared.{Shares}
 use Rattle.model.specs.Shared.Shares.{alone, in_folder}
 use Rattle.laws.specs.Tests.{◌and◌, two, true_T, and_l, and_r, eq_or_ne, every_at}
 use Rattle.laws.specs.Folders.{folder_used, permission_up}
 use Rattle.laws.specs.Answers.{first_passed, image_passed, call_checked, call_passed}
-use Rattle.laws.specs.Opens.{opened_yes}
+use Rattle.laws.specs.Opens.{tables_yes}
 use Rattle.laws.specs.Asks.{asked_set, explain_done}
 use Rattle.laws.specs.Reasons.{put_together_lem, not_refused}
 
@@ -61,9 +60,7 @@ module _ (img : List ℕ) (checked : check img ≡ 0) (s r : ℕ) (asker : T (su
     unfolding explain_questions
     is =
         sym
-        (explain_done img (With (layout_of img)) (opened_yes img (layout_of img) refl (sym checked)) s r i (explanation t s r i)
-        (layout_of img)
-        refl
+        (explain_done img (Ok t) (tables_yes img checked) s r i t refl (explanation t s r i)
         (sym (first_passed (explain_questions t s i) (asker and used and tt)))
         refl)
 

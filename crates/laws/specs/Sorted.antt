@@ -4,10 +4,10 @@
 -- key is lower than the one sought, equal to it, or higher. None of them unfolds `search`: it is first turned into the plain row
 -- and the plain count (`find_plain`, `index_counts`).
 use Rattle.std.proofs.Math.Bool.{true, false≢true}
-use Rattle.std.specs.Prelude.{false, ◌||◌, ◌≢◌, ◌≡◌, ltb, take, drop}
+use Rattle.std.specs.Prelude.{false, ◌||◌, ◌≢◌, ◌≡◌, ltb, take, drop, None, Option, Some, slice_get}
+use Rattle.std.proofs.lemmas.Option.{none-some}
 use mathlib.Core.List.{List, [], ◌∷◌, ◌++◌}
 use Rattle.std.proofs.Math.Logic.{inl, inr}
-use Rattle.std.proofs.Math.Option.{Option, none, some, none-ne-some}
 use Rattle.std.proofs.Math.Path.{refl}
 use Rattle.std.proofs.Common.{sym, ap, ◌∙◌, ltb→lt, length-append, length-take, length-drop}
 use Prim.Native.Nat.{ℕ, zero, suc, ◌-◌, ◌<◌, ◌≤◌}
@@ -15,7 +15,7 @@ use Rattle.std.proofs.Math.Nat.{suc-le-suc_iff}
 use native.Mathlib.Omega.{arith}
 use borrow.Author.Tests.{lt-ltb, le-ltb, ltb-true, ltb-false}
 use Rattle.std.proofs.Math.Dec.{T, leb-suc-suc}
-use Rattle.std.proofs.Math.ListN.{length, get_elem?}
+use Rattle.std.proofs.Math.ListN.{length}
 use Rattle.std.specs.List.{AllByRecursion}
 use Rattle.model.specs.Lists.{if_there, is_there}
 use Rattle.model.specs.Sorted.{before, same, Found, found, middle}
@@ -27,8 +27,8 @@ use Rattle.laws.specs.KeyOrder.Order.{lower, equal, higher}
 
 -- A fact about a row that may be missing.
 abbrev pub IfSome : {A : Type 0} → (A → Type 0) → Option A → Type 0
-IfSome P none = Unit
-IfSome P (some r) = P r
+IfSome P None = Unit
+IfSome P (Some r) = P r
 
 module _ {A : Type 0} (key : A → List ℕ) where
   -- An ascending table: the first row's key is lower than every other, and the rest is ascending.
@@ -108,7 +108,7 @@ module _ {A : Type 0} (key : A → List ℕ) where
 
   -- The row with a key.
 
-  row_above : (k : List ℕ) (xs : List A) → Above k xs → row_with key k xs ≡ none
+  row_above : (k : List ℕ) (xs : List A) → Above k xs → row_with key k xs ≡ None
   row_above k [] a = refl
   row_above k (x ∷ xs) a =
       elim (order (key x) k) [
@@ -119,9 +119,9 @@ module _ {A : Type 0} (key : A → List ℕ) where
 
   -- it is one of the rows, and has the key; if there is none, no row has it
   pub row_there : (k : List ℕ) (xs : List A) (r : A)
-      → row_with key k xs ≡ some r
-      → ((n : ℕ) × (get_elem? xs n ≡ some r)) × (key r ≡ k)
-  row_there k [] r e = absurd (none-ne-some r e)
+      → row_with key k xs ≡ Some r
+      → ((n : ℕ) × (slice_get xs n ≡ Some r)) × (key r ≡ k)
+  row_there k [] r e = absurd (none-some r e)
   row_there k (x ∷ xs) r e =
       elim (order (key x) k) [
         | lower a b c ↦ let rest = row_there k xs r (rw c at e) in ((suc rest.0.0, rest.0.1), rest.1)
@@ -129,24 +129,24 @@ module _ {A : Type 0} (key : A → List ℕ) where
         | higher a b c ↦ let rest = row_there k xs r (rw c at e) in ((suc rest.0.0, rest.0.1), rest.1)
       ]
 
-  pub row_none : (k : List ℕ) (xs : List A) (n : ℕ) (r : A) → row_with key k xs ≡ none → get_elem? xs n ≡ some r → key r ≢ k
-  row_none k [] n r e at h = none-ne-some r at
+  pub row_none : (k : List ℕ) (xs : List A) (n : ℕ) (r : A) → row_with key k xs ≡ None → slice_get xs n ≡ Some r → key r ≢ k
+  row_none k [] n r e at h = none-some r at
   row_none k (x ∷ xs) zero r e at h =
       let first : key x ≡ k = cc in
-      let hit : some x ≡ none = rw (first, same_self k) at e in
-      none-ne-some x (sym hit)
+      let hit : Some x ≡ None = rw (first, same_self k) at e in
+      none-some x (sym hit)
   row_none k (x ∷ xs) (suc n) r e at h =
       elim (two (same (key x) k)) [
-        | inl hit ↦ none-ne-some x (sym (rw hit at e))
+        | inl hit ↦ none-some x (sym (rw hit at e))
         | inr miss ↦ row_none k xs n r (rw miss at e) at h
       ]
 
   -- in an ascending table a row is the only one with its key
   pub row_only : (xs : List A) (n : ℕ) (r : A)
       → T (ascending key xs)
-      → get_elem? xs n ≡ some r
-      → row_with key (key r) xs ≡ some r
-  row_only [] n r up at = absurd (none-ne-some r at)
+      → slice_get xs n ≡ Some r
+      → row_with key (key r) xs ≡ Some r
+  row_only [] n r up at = absurd (none-some r at)
   row_only (x ∷ xs) zero r up at = let is : x ≡ r = cc in rw (is, same_self (key r))
   row_only (x ∷ xs) (suc n) r up at =
       let higher_key : before (key x) (key r) ≡ true =
@@ -195,8 +195,8 @@ module _ {A : Type 0} (key : A → List ℕ) where
   -- the key. In the last two cases no row is lower.
   data Split (k : List ℕ) (x : A) (xs : List A) : Type 0 where
     behind : before (key x) k ≡ true → same (key x) k ≡ false → Split k x xs
-    here : key x ≡ k → before (key x) k ≡ false → same (key x) k ≡ true → count_lower key k xs ≡ 0 → row_with key k xs ≡ none → Split k x xs
-    nowhere : before (key x) k ≡ false → same (key x) k ≡ false → count_lower key k xs ≡ 0 → row_with key k xs ≡ none → Split k x xs
+    here : key x ≡ k → before (key x) k ≡ false → same (key x) k ≡ true → count_lower key k xs ≡ 0 → row_with key k xs ≡ None → Split k x xs
+    nowhere : before (key x) k ≡ false → same (key x) k ≡ false → count_lower key k xs ≡ 0 → row_with key k xs ≡ None → Split k x xs
 
   split : (k : List ℕ) (x : A) (xs : List A) → T (ascending key (x ∷ xs)) → Split k x xs
   split k x xs up =
@@ -211,26 +211,26 @@ module _ {A : Type 0} (key : A → List ℕ) where
   -- the row with the key is the one behind the rows with lower keys
   row_counted : (k : List ℕ) (xs : List A) (r : A)
       → T (ascending key xs)
-      → row_with key k xs ≡ some r
-      → get_elem? xs (count_lower key k xs) ≡ some r
-  row_counted k [] r up e = absurd (none-ne-some r e)
+      → row_with key k xs ≡ Some r
+      → slice_get xs (count_lower key k xs) ≡ Some r
+  row_counted k [] r up e = absurd (none-some r e)
   row_counted k (x ∷ xs) r up e =
       elim (split k x xs up) [
         | behind l n ↦ rw l (row_counted k xs r (ascending_tail x xs up) (rw n at e))
         | here i l n z m ↦ rw (l, z) (rw n at e)
-        | nowhere l n z m ↦ absurd (none-ne-some r (sym m ∙ (rw n at e)))
+        | nowhere l n z m ↦ absurd (none-some r (sym m ∙ (rw n at e)))
       ]
 
   count_there : (k : List ℕ) (xs : List A) (r : A)
       → T (ascending key xs)
-      → row_with key k xs ≡ some r
+      → row_with key k xs ≡ Some r
       → count_lower key k xs < length xs
-  count_there k [] r up e = absurd (none-ne-some r e)
+  count_there k [] r up e = absurd (none-some r e)
   count_there k (x ∷ xs) r up e =
       elim (split k x xs up) [
         | behind l n ↦ rw l (suc-le-suc_iff.1 (count_there k xs r (ascending_tail x xs up) (rw n at e)))
         | here i l n z m ↦ rw (l, z) (omega arith)
-        | nowhere l n z m ↦ absurd (none-ne-some r (sym m ∙ (rw n at e)))
+        | nowhere l n z m ↦ absurd (none-some r (sym m ∙ (rw n at e)))
       ]
 
   -- Halving an ascending table comes to the row with the key and to the number of rows with a lower one. By index, the rows
@@ -255,7 +255,7 @@ module _ {A : Type 0} (key : A → List ℕ) where
   hit_next : (k : List ℕ) (xs : List A) (n : ℕ)
       → T (ascending key xs)
       → same_at key k xs n ≡ true
-      → (n ≡ count_lower key k xs) × (get_elem? xs n ≡ row_with key k xs)
+      → (n ≡ count_lower key k xs) × (slice_get xs n ≡ row_with key k xs)
   hit_next k [] n up e = absurd (false≢true e)
   hit_next k (x ∷ xs) zero up e =
       elim (split k x xs up) [
@@ -273,7 +273,7 @@ module _ {A : Type 0} (key : A → List ℕ) where
 
   hit_there : (k : List ℕ) (xs : List A) (r : A)
       → T (ascending key xs)
-      → row_with key k xs ≡ some r
+      → row_with key k xs ≡ Some r
       → same_at key k xs (count_lower key k xs) ≡ true
   hit_there k xs r up e = rw (row_counted k xs r up e, (row_there k xs r e).1) (same_self k)
 
@@ -283,19 +283,19 @@ module _ {A : Type 0} (key : A → List ℕ) where
         → first ≤ count_lower key k xs
         → count_lower key k xs ≤ end
         → end ≤ first
-        → ((r : A) → row_with key k xs ≡ some r → count_lower key k xs < end)
-        → found first none ≡ found (count_lower key k xs) (row_with key k xs)
+        → ((r : A) → row_with key k xs ≡ Some r → count_lower key k xs < end)
+        → found first None ≡ found (count_lower key k xs) (row_with key k xs)
     ended first end from to past there = go (row_with key k xs) refl
       where
-        go : (o : Option A) → row_with key k xs ≡ o → found first none ≡ found (count_lower key k xs) o
-        go none m = let is : first ≡ count_lower key k xs = omega arith in ap (λ (i : ℕ). found i none) is
-        go (some r) m = absurd (omega (arith, there r m))
+        go : (o : Option A) → row_with key k xs ≡ o → found first None ≡ found (count_lower key k xs) o
+        go None m = let is : first ≡ count_lower key k xs = omega arith in ap (λ (i : ℕ). found i None) is
+        go (Some r) m = absurd (omega (arith, there r m))
 
     halve_comes : (n first end : ℕ)
         → first ≤ count_lower key k xs
         → count_lower key k xs ≤ end
         → end - first ≤ n
-        → ((r : A) → row_with key k xs ≡ some r → count_lower key k xs < end)
+        → ((r : A) → row_with key k xs ≡ Some r → count_lower key k xs < end)
         → halve key n k xs first end ≡ found (count_lower key k xs) (row_with key k xs)
     unfolding halve
     halve_comes zero first end from to few there = ended first end from to (omega arith) there
@@ -348,9 +348,9 @@ module _ {A : Type 0} (key : A → List ℕ) where
 
   -- a found row has the key, and what holds of every row holds of it; in any table
   module _ (P : A → Type 0) (k : List ℕ) (xs : List A) (all : AllByRecursion P xs) where
-    all_hit : (n : ℕ) (o : Option A) → get_elem? xs n ≡ o → if_there (λ x. same (key x) k) o ≡ true → IfSome (λ r. P r × (key r ≡ k)) o
-    all_hit n none at hit = tt
-    all_hit n (some r) at hit = (all_index P xs n r all at, same_is (key r) k hit)
+    all_hit : (n : ℕ) (o : Option A) → slice_get xs n ≡ o → if_there (λ x. same (key x) k) o ≡ true → IfSome (λ r. P r × (key r ≡ k)) o
+    all_hit n None at hit = tt
+    all_hit n (Some r) at hit = (all_index P xs n r all at, same_is (key r) k hit)
 
     all_halve : (n first end : ℕ) → IfSome (λ r. P r × (key r ≡ k)) (halve key n k xs first end).row
     unfolding halve
@@ -360,7 +360,7 @@ module _ {A : Type 0} (key : A → List ℕ) where
           | inl e ↦ rw e (elim (two (lower_at key k xs (middle first end))) [
             | inl l ↦ rw l (all_halve n (suc (middle first end)) end)
             | inr l ↦ rw l (elim (two (same_at key k xs (middle first end))) [
-              | inl h ↦ rw h (all_hit (middle first end) (get_elem? xs (middle first end)) refl h)
+              | inl h ↦ rw h (all_hit (middle first end) (slice_get xs (middle first end)) refl h)
               | inr h ↦ rw h (all_halve n first (middle first end))
             ])
           ])
@@ -387,24 +387,24 @@ module _ {A : Type 0} (key : A → List ℕ) where
 
   pub found_index : (k : List ℕ) (xs : List A) (r : A)
       → T (ascending key xs)
-      → find_row key k xs ≡ some r
+      → find_row key k xs ≡ Some r
       → insertion_index key k xs < length xs
   found_index k xs r up h = rw (index_counts k xs up) (count_there k xs r up (sym (find_plain k xs up) ∙ h))
 
   -- Putting and cutting at the insertion index, in an ascending table.
 
-  counted_new : (r : A) (xs : List A) → T (ascending key xs) → row_with key (key r) xs ≡ none
+  counted_new : (r : A) (xs : List A) → T (ascending key xs) → row_with key (key r) xs ≡ None
       → put key r xs ≡ take (count_lower key (key r) xs) xs ++ r ∷ drop (count_lower key (key r) xs) xs
   unfolding put
   counted_new r [] up h = refl
   counted_new r (x ∷ xs) up h =
       elim (split (key r) x xs up) [
         | behind l m ↦ rw l (ap (λ (ys : List A). x ∷ ys) (counted_new r xs (ascending_tail x xs up) (rw m at h)))
-        | here i l m z o ↦ absurd (none-ne-some x (sym (rw m at h)))
+        | here i l m z o ↦ absurd (none-some x (sym (rw m at h)))
         | nowhere l m z o ↦ rw (l, m, z)
       ]
 
-  counted_over : (r : A) (xs : List A) (y : A) → T (ascending key xs) → row_with key (key r) xs ≡ some y
+  counted_over : (r : A) (xs : List A) (y : A) → T (ascending key xs) → row_with key (key r) xs ≡ Some y
       → put key r xs ≡ take (count_lower key (key r) xs) xs ++ r ∷ drop (suc (count_lower key (key r) xs)) xs
   unfolding put
   counted_over r [] y up h = refl
@@ -412,10 +412,10 @@ module _ {A : Type 0} (key : A → List ℕ) where
       elim (split (key r) x xs up) [
         | behind l m ↦ rw l (ap (λ (ys : List A). x ∷ ys) (counted_over r xs y (ascending_tail x xs up) (rw m at h)))
         | here i l m z o ↦ rw (l, m, z)
-        | nowhere l m z o ↦ absurd (none-ne-some y (sym o ∙ (rw m at h)))
+        | nowhere l m z o ↦ absurd (none-some y (sym o ∙ (rw m at h)))
       ]
 
-  counted_cut : (k : List ℕ) (xs : List A) (y : A) → T (ascending key xs) → row_with key k xs ≡ some y
+  counted_cut : (k : List ℕ) (xs : List A) (y : A) → T (ascending key xs) → row_with key k xs ≡ Some y
       → cut key k xs ≡ take (count_lower key k xs) xs ++ drop (suc (count_lower key k xs)) xs
   unfolding cut
   counted_cut k [] y up h = refl
@@ -423,30 +423,30 @@ module _ {A : Type 0} (key : A → List ℕ) where
       elim (split k x xs up) [
         | behind l m ↦ rw l (ap (λ (ys : List A). x ∷ ys) (counted_cut k xs y (ascending_tail x xs up) (rw m at h)))
         | here i l m z o ↦ rw (l, m, z)
-        | nowhere l m z o ↦ absurd (none-ne-some y (sym o ∙ (rw m at h)))
+        | nowhere l m z o ↦ absurd (none-some y (sym o ∙ (rw m at h)))
       ]
 
-  pub put_new : (r : A) (xs : List A) → T (ascending key xs) → find_row key (key r) xs ≡ none
+  pub put_new : (r : A) (xs : List A) → T (ascending key xs) → find_row key (key r) xs ≡ None
       → put key r xs ≡ take (insertion_index key (key r) xs) xs ++ r ∷ drop (insertion_index key (key r) xs) xs
   put_new r xs up h = rw (index_counts (key r) xs up) (counted_new r xs up (sym (find_plain (key r) xs up) ∙ h))
 
-  pub put_over : (r : A) (xs : List A) (y : A) → T (ascending key xs) → find_row key (key r) xs ≡ some y
+  pub put_over : (r : A) (xs : List A) (y : A) → T (ascending key xs) → find_row key (key r) xs ≡ Some y
       → put key r xs ≡ take (insertion_index key (key r) xs) xs ++ r ∷ drop (suc (insertion_index key (key r) xs)) xs
   put_over r xs y up h = rw (index_counts (key r) xs up) (counted_over r xs y up (sym (find_plain (key r) xs up) ∙ h))
 
-  pub cut_found : (k : List ℕ) (xs : List A) (y : A) → T (ascending key xs) → find_row key k xs ≡ some y
+  pub cut_found : (k : List ℕ) (xs : List A) (y : A) → T (ascending key xs) → find_row key k xs ≡ Some y
       → cut key k xs ≡ take (insertion_index key k xs) xs ++ drop (suc (insertion_index key k xs)) xs
   cut_found k xs y up h = rw (index_counts k xs up) (counted_cut k xs y up (sym (find_plain k xs up) ∙ h))
 
   -- The length afterwards.
 
-  length_put_new : (r : A) (xs : List A) → T (ascending key xs) → find_row key (key r) xs ≡ none → length (put key r xs) ≡ suc (length xs)
+  length_put_new : (r : A) (xs : List A) → T (ascending key xs) → find_row key (key r) xs ≡ None → length (put key r xs) ≡ suc (length xs)
   length_put_new r xs up h =
       rw (put_new r xs up h) (simp (length-append, length-take, length-drop) (omega (arith, index_le (key r) xs up)))
 
   length_put_over : (r : A) (xs : List A) (y : A)
       → T (ascending key xs)
-      → find_row key (key r) xs ≡ some y
+      → find_row key (key r) xs ≡ Some y
       → length (put key r xs) ≡ length xs
   length_put_over r xs y up h =
       rw (put_over r xs y up h) (simp (length-append, length-take, length-drop) (omega (arith, found_index (key r) xs y up h)))
@@ -471,5 +471,5 @@ module _ {A : Type 0} (key : A → List ℕ) where
   put_fits r xs cap up h t = go (find_row key (key r) xs) refl t
     where
       go : (o : Option A) → find_row key (key r) xs ≡ o → T (is_there o || ltb (length xs) cap) → length (put key r xs) ≤ cap
-      go none e u = omega (arith, length_put_new r xs up e, ltb→lt (length xs) cap u)
-      go (some y) e u = omega (arith, length_put_over r xs y up e)
+      go None e u = omega (arith, length_put_new r xs up e, ltb→lt (length xs) cap u)
+      go (Some y) e u = omega (arith, length_put_over r xs y up e)

@@ -1,12 +1,11 @@
 -- What it means that tests are passed: one test, a list of tests, a test of every row. And laws of facts about every row.
-use Rattle.std.specs.Prelude.{Bool, true, false, ◌&&◌, ◌||◌, not, List, [], ◌∷◌, ◌++◌, ◌⊎◌, ◌≢◌, ◌≡◌, refl, ℕ, zero}
+use Rattle.std.specs.Prelude.{Bool, true, false, ◌&&◌, ◌||◌, not, List, [], ◌∷◌, ◌++◌, ◌⊎◌, ◌≢◌, ◌≡◌, refl, ℕ, zero, None, Some, slice_get}
+use Rattle.std.proofs.lemmas.Option.{none-some}
 use Rattle.std.specs.Prelude.{suc, ◌<◌, ◌≤◌, T, eqb, ltb, leb, length, get_or, set}
 use Rattle.std.proofs.Math.Bool.{and-true}
-use Rattle.std.proofs.Math.Option.{none, some, none-ne-some}
 use Rattle.std.proofs.Common.{sym, ◌∙◌, le_of_suc-le-suc, not-suc-le-zero, arith, ltb-true, ltb-false, leb-true}
 use Rattle.std.proofs.Common.{leb-false, eqb-true}
 use Rattle.std.proofs.lemmas.Bool.{eqb-false, not-true, not-false}
-use Rattle.std.proofs.Math.ListN.{get_elem?}
 use Rattle.std.specs.List.{AllByRecursion}
 use Rattle.model.specs.Lists.{all_of, every, every_numbered}
 
@@ -213,19 +212,19 @@ module _ {A : Type 0} where
     all_at (x ∷ xs) d a (suc k) h = all_at xs d a.1 k (le_of_suc-le-suc h)
 
     -- the same of a row that is looked up by its index
-    pub all_index : (xs : List A) (n : ℕ) (r : A) → AllByRecursion P xs → get_elem? xs n ≡ some r → P r
-    all_index [] n r all at = absurd (none-ne-some r at)
+    pub all_index : (xs : List A) (n : ℕ) (r : A) → AllByRecursion P xs → slice_get xs n ≡ Some r → P r
+    all_index [] n r all at = absurd (none-some r at)
     all_index (x ∷ xs) zero r all at = let is : x ≡ r = cc in rw is at all.0
     all_index (x ∷ xs) (suc n) r all at = all_index xs n r all.1 at
 
   -- A row by its index: past the end there is none.
 
-  pub index_past : (xs : List A) (n : ℕ) → length xs ≤ n → get_elem? xs n ≡ none
+  pub index_past : (xs : List A) (n : ℕ) → length xs ≤ n → slice_get xs n ≡ None
   index_past [] n h = refl
   index_past (x ∷ xs) zero h = absurd (not-suc-le-zero h)
   index_past (x ∷ xs) (suc n) h = index_past xs n (le_of_suc-le-suc h)
 
-  pub index_there : (xs : List A) (n : ℕ) (d : A) → n < length xs → get_elem? xs n ≡ some (get_or xs n d)
+  pub index_there : (xs : List A) (n : ℕ) (d : A) → n < length xs → slice_get xs n ≡ Some (get_or xs n d)
   index_there [] n d h = absurd (not-suc-le-zero h)
   index_there (x ∷ xs) zero d h = refl
   index_there (x ∷ xs) (suc n) d h = index_there xs n d (le_of_suc-le-suc h)

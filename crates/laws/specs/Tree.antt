@@ -1,10 +1,9 @@
 -- Laws of climbing, for any step `up`: the steps up, being in a tree, and the group search. A climb from s gives the same for every
 -- number of allowed steps that is at least s. So each has an equation without that number. And each uses `up` only at s and at
 -- lower numbers.
-use Rattle.std.specs.Prelude.{Bool, ◌&&◌, ◌||◌, not, cond, List, ◌⊎◌, ◌≡◌, T, eqb, ltb}
+use Rattle.std.specs.Prelude.{Bool, ◌&&◌, ◌||◌, not, cond, List, ◌⊎◌, ◌≡◌, T, eqb, ltb, None, Option, Some, option_map}
 use Rattle.std.proofs.Math.Bool.{true, false}
 use Rattle.std.proofs.Math.Logic.{inl, inr}
-use Rattle.std.proofs.Math.Option.{Option, none, some, map}
 use Rattle.std.proofs.Math.Path.{refl, ap}
 use Rattle.std.proofs.Common.{◌∙◌, arith, eqb→eq, ltb→lt, lt→ltb, T_not}
 use Prim.Native.Nat.{ℕ, zero, suc, ◌<◌, ◌≤◌}
@@ -31,7 +30,7 @@ module _ (up : ℕ → ℕ) where
         | inr e ↦ rw e
       ]
 
-  pub steps_up_lem : (h s : ℕ) → steps_up up s h ≡ cond (eqb s h) (some 0) (cond (ltb (up s) s) (map suc (steps_up up (up s) h)) none)
+  pub steps_up_lem : (h s : ℕ) → steps_up up s h ≡ cond (eqb s h) (Some 0) (cond (ltb (up s) s) (option_map suc (steps_up up (up s) h)) None)
   unfolding steps_within steps_up
   steps_up_lem h s =
       steps_enough h s (suc s) s (omega arith) (omega arith)
@@ -41,11 +40,11 @@ module _ (up : ℕ → ℕ) where
       ]
 
   -- being in the tree is one reading of the steps
-  pub steps_inside : (h s n : ℕ) → steps_up up s h ≡ some n → in_tree up h s ≡ true
+  pub steps_inside : (h s n : ℕ) → steps_up up s h ≡ Some n → in_tree up h s ≡ true
   unfolding in_tree
   steps_inside h s n e = rw e
 
-  pub steps_outside : (h s : ℕ) → steps_up up s h ≡ none → in_tree up h s ≡ false
+  pub steps_outside : (h s : ℕ) → steps_up up s h ≡ None → in_tree up h s ≡ false
   unfolding in_tree
   steps_outside h s e = rw e
 
@@ -53,13 +52,13 @@ module _ (up : ℕ → ℕ) where
   unfolding in_tree
   tree_up h s = ap is_there (steps_up_lem h s) ∙ go (eqb s h) (ltb (up s) s) (steps_up up (up s) h)
     where
-      go : (b c : Bool) (o : Option ℕ) → is_there (cond b (some 0) (cond c (map suc o) none)) ≡ (b || (c && is_there o))
+      go : (b c : Bool) (o : Option ℕ) → is_there (cond b (Some 0) (cond c (option_map suc o) None)) ≡ (b || (c && is_there o))
       go true c o = refl
-      go false true (some n) = refl
-      go false true none = refl
+      go false true (Some n) = refl
+      go false true None = refl
       go false false o = refl
 
-  steps_within_below : (h n s : ℕ) → s < h → steps_within n up s h ≡ none
+  steps_within_below : (h n s : ℕ) → s < h → steps_within n up s h ≡ None
   unfolding steps_within
   steps_within_below h zero s l = rw (ne_eqb s h (omega arith))
   steps_within_below h (suc n) s l =
@@ -67,7 +66,7 @@ module _ (up : ℕ → ℕ) where
       (elim (two (ltb (up s) s)) [ inl e ↦ rw (e, steps_within_below h n (up s) (omega (arith, ltb-true (up s) s e))) | inr e ↦ rw e ])
 
   -- no steps lead to a higher number, so the tree of h has no number lower than h
-  pub steps_below : (h s : ℕ) → s < h → steps_up up s h ≡ none
+  pub steps_below : (h s : ℕ) → s < h → steps_up up s h ≡ None
   unfolding steps_up
   steps_below h s l = steps_within_below h s s l
 
@@ -121,7 +120,7 @@ module _ (up : ℕ → ℕ) where
       ]
 
   pub group_up : (lines : List LineRow) (a s : ℕ)
-      → group_line up lines s a ≡ cond (ltb (up s) s) (or_else (line_in lines a group_kind (up s)) (group_line up lines (up s) a)) none
+      → group_line up lines s a ≡ cond (ltb (up s) s) (or_else (line_in lines a group_kind (up s)) (group_line up lines (up s) a)) None
   unfolding group_within group_line
   group_up lines a s =
       group_enough lines a s (suc s) s (omega arith) (omega arith)

@@ -1,3 +1,3 @@
-// Theorems about the definitions of `model`; there is no code here.
+//! Theorems about the definitions of `model`; there is no code here.
 
 #![tactic(auto)]

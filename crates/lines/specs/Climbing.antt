@@ -1,6 +1,5 @@
 -- What the contracts of the group search cite beside the definitions of `model`. g is a group, a is a list.
-use Rattle.std.specs.Prelude.{List, [], ◌∷◌, ◌⊎◌, ◌≡◌, ℕ, ◌<◌, ◌≤◌}
-use Rattle.std.proofs.Math.Option.{Option, none, some}
+use Rattle.std.specs.Prelude.{List, [], ◌∷◌, ◌⊎◌, ◌≡◌, ℕ, ◌<◌, ◌≤◌, None, Option, Some, Result, Ok, Err}
 use Rattle.model.specs.declared.LineRow.{LineRow}
 use Rattle.model.specs.declared.Rule.{Rule}
 use Rattle.model.specs.declared.Rule.TheVariants.{GroupLine, NothingFound}
@@ -8,8 +7,6 @@ use Rattle.model.specs.Lists.{or_else}
 use Rattle.model.specs.Sorted.{find_row}
 use Rattle.model.specs.Image.{line_key, group_kind}
 use Rattle.model.specs.Permission.{line_in, group_line, rule_by}
-use Rattle.lines.specs.declared.groups.NearestGroup.{NearestGroup}
-use Rattle.lines.specs.declared.groups.NearestGroup.TheVariants.{Line, Below}
 
 -- the group line of g itself, or the lowest one above it
 abbrev pub line_from : (ℕ → ℕ) → List LineRow → ℕ → ℕ → Option LineRow
@@ -20,12 +17,12 @@ rule_from up lines g a = rule_by GroupLine (line_from up lines g a) NothingFound
 
 -- from a bound on, up to g, no group has a line
 abbrev pub NoneFrom : List LineRow → ℕ → ℕ → ℕ → Type 0
-NoneFrom lines a g bound = (p : ℕ) → bound ≤ p → p ≤ g → find_row line_key (a ∷ group_kind ∷ p ∷ []) lines ≡ none
+NoneFrom lines a g bound = (p : ℕ) → bound ≤ p → p ≤ g → find_row line_key (a ∷ group_kind ∷ p ∷ []) lines ≡ None
 
 -- what the code's answer says: the line of g, or a bound
-abbrev pub NearestBy : List LineRow → ℕ → ℕ → NearestGroup → Type 0
-NearestBy lines a g (Line l) = find_row line_key (a ∷ group_kind ∷ g ∷ []) lines ≡ some l
-NearestBy lines a g (Below bound) = (bound ≤ g) × NoneFrom lines a g bound
+abbrev pub NearestBy : List LineRow → ℕ → ℕ → Result LineRow ℕ → Type 0
+NearestBy lines a g (Ok l) = find_row line_key (a ∷ group_kind ∷ g ∷ []) lines ≡ Some l
+NearestBy lines a g (Err bound) = (bound ≤ g) × NoneFrom lines a g bound
 
 -- a new bound r: it is not lower than the old one, and above the subject of row x, if that is a group line of the list
 pub record Behind (x : LineRow) (a g bound r : ℕ) : Type 0 where

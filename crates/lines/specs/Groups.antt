@@ -1,7 +1,6 @@
 -- The group search, step by step as in the code.
-use Rattle.std.specs.Prelude.{List, ◌⊎◌, ◌≡◌, ltb}
+use Rattle.std.specs.Prelude.{List, ◌⊎◌, ◌≡◌, ltb, None, Some, Result, Ok, Err}
 use Rattle.std.proofs.Math.Logic.{inl, inr}
-use Rattle.std.proofs.Math.Option.{none, some}
 use Rattle.std.proofs.Math.Path.{refl}
 use Rattle.std.proofs.Common.{sym, ◌∙◌, le_of_eq, arith}
 use Prim.Native.Nat.{ℕ, zero, suc, ◌<◌, ◌≤◌}
@@ -13,8 +12,6 @@ use Rattle.model.specs.Image.{group_kind}
 use Rattle.model.specs.Permission.{line_in, group_within, group_line, group_rule}
 use Rattle.laws.specs.Tests.{two}
 use Rattle.laws.specs.Tree.{group_up}
-use Rattle.lines.specs.declared.groups.NearestGroup.{NearestGroup}
-use Rattle.lines.specs.declared.groups.NearestGroup.TheVariants.{Line, Below}
 use Rattle.lines.specs.Searches.{some_list}
 use Rattle.lines.specs.Climbing.{line_from, rule_from, NoneFrom, NearestBy, Way, Climbed}
 
@@ -38,13 +35,13 @@ module _ (up : ℕ → ℕ) (bound s : ℕ) where
 
 module _ (up : ℕ → ℕ) (lines : List LineRow) (a : ℕ) where
   -- one step up
-  from_up : (g : ℕ) → line_in lines a group_kind g ≡ none → up g < g → line_from up lines g a ≡ line_from up lines (up g) a
+  from_up : (g : ℕ) → line_in lines a group_kind g ≡ None → up g < g → line_from up lines g a ≡ line_from up lines (up g) a
   from_up g missing low = rw (missing, group_up up lines a g, lt-ltb (up g) g low)
 
-  from_top : (g : ℕ) → line_in lines a group_kind g ≡ none → g ≤ up g → line_from up lines g a ≡ none
+  from_top : (g : ℕ) → line_in lines a group_kind g ≡ None → g ≤ up g → line_from up lines g a ≡ None
   from_top g missing out = rw (missing, group_up up lines a g, le-ltb (up g) g out)
 
-  none_within : (n s : ℕ) → ((p : ℕ) → p ≤ s → line_in lines a group_kind p ≡ none) → group_within n up lines s a ≡ none
+  none_within : (n s : ℕ) → ((p : ℕ) → p ≤ s → line_in lines a group_kind p ≡ None) → group_within n up lines s a ≡ None
   unfolding group_within
   none_within zero s all = refl
   none_within (suc n) s all =
@@ -57,8 +54,8 @@ module _ (up : ℕ → ℕ) (lines : List LineRow) (a : ℕ) where
 
   -- groups without a line are passed over
   module _ (some-a : a ≡ 0 → ⊥) (g bound : ℕ) (no_lines : NoneFrom lines a g bound) where
-    no_group_line : (p : ℕ) → bound ≤ p → p ≤ g → line_in lines a group_kind p ≡ none
-    no_group_line p from to = sym (some_list lines group_kind p none a some-a (sym (no_lines p from to)))
+    no_group_line : (p : ℕ) → bound ≤ p → p ≤ g → line_in lines a group_kind p ≡ None
+    no_group_line p from to = sym (some_list lines group_kind p None a some-a (sym (no_lines p from to)))
 
     passed : (r : ℕ) → Way up bound g r → line_from up lines g a ≡ line_from up lines r a
     passed r (Way.here) = refl
@@ -67,7 +64,7 @@ module _ (up : ℕ → ℕ) (lines : List LineRow) (a : ℕ) where
 
     pub passed_out : (r : ℕ) → Climbed up bound g r → bound ≤ r → NothingFound ≡ rule_from up lines g a
     passed_out r climbed in-bound =
-        let top : line_from up lines g a ≡ none =
+        let top : line_from up lines g a ≡ None =
         passed r climbed.way
         ∙ from_top r (no_group_line r in-bound (way_low up bound g r climbed.way)) (out climbed.ends) in
         rw top
@@ -77,13 +74,13 @@ module _ (up : ℕ → ℕ) (lines : List LineRow) (a : ℕ) where
         out (inr high) = high
 
   -- What the lines say of group g, and the rule that follows. x is the code's answer.
-  module _ (some-a : a ≡ 0 → ⊥) (g : ℕ) (x : NearestGroup) (said : NearestBy lines a g x) where
-    pub from_line : (l : LineRow) → x ≡ Line l → GroupLine l ≡ rule_from up lines g a
+  module _ (some-a : a ≡ 0 → ⊥) (g : ℕ) (x : Result LineRow ℕ) (said : NearestBy lines a g x) where
+    pub from_line : (l : LineRow) → x ≡ Ok l → GroupLine l ≡ rule_from up lines g a
     from_line l case =
-        let hit : some l ≡ line_in lines a group_kind g = some_list lines group_kind g (some l) a some-a (sym (rw case at said)) in
+        let hit : Some l ≡ line_in lines a group_kind g = some_list lines group_kind g (Some l) a some-a (sym (rw case at said)) in
         rw (← hit)
 
-    module _ (bound : ℕ) (case : x ≡ Below bound) where
+    module _ (bound : ℕ) (case : x ≡ Err bound) where
       bounded : (bound ≤ g) × NoneFrom lines a g bound
       bounded = rw case at said
 
@@ -91,7 +88,7 @@ module _ (up : ℕ → ℕ) (lines : List LineRow) (a : ℕ) where
       unfolding group_line
       from_nobody z = rw (all g (le_of_eq refl), none_within g g (λ p to. all p to))
         where
-          all : (p : ℕ) → p ≤ g → line_in lines a group_kind p ≡ none
+          all : (p : ℕ) → p ≤ g → line_in lines a group_kind p ≡ None
           all p to = no_group_line some-a g bound bounded.1 p (omega arith) to
 
       module _ (r : ℕ) (climbed : Climbed up bound g r) where

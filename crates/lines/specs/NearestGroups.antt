@@ -1,18 +1,16 @@
 -- The search for the nearest group line, as the code does it. It is the search for the lines of several groups at once: of all
 -- that are not below the bound. A row that is lower than group g is lower than these too, and so is one that is higher.
-use Rattle.std.specs.Prelude.{Bool, true, false, List, [], ◌∷◌, ◌⊎◌, ◌≡◌, refl, ℕ, ◌+◌, ◌<◌, ◌≤◌, get_or}
+use Rattle.std.specs.Prelude.{Bool, true, false, List, [], ◌∷◌, ◌⊎◌, ◌≡◌, refl, ℕ, ◌+◌, ◌<◌, ◌≤◌, length, get_or, Some}
 use Rattle.std.proofs.lemmas.Bool.{false≢true}
 use Rattle.std.proofs.Common.{inl, inr, sym, ap, ◌∙◌, le_of_eq, arith, lt-ltb}
-use Rattle.std.proofs.Math.Option.{some}
-use Rattle.model.specs.declared.Layout.{Layout}
 use Rattle.model.specs.declared.LineRow.{LineRow}
 use Rattle.model.specs.Sorted.{before, same, Found, middle, find_row}
-use Rattle.model.specs.Image.{rows_in, width_of, line_format, line_key, group_kind, no_line}
+use Rattle.model.specs.Image.{line_key, group_kind, no_line}
 use Rattle.laws.specs.Tests.{eq_or_ne}
 use Rattle.laws.specs.KeyOrder.{order, before_self, before_heads, before_trans}
 use Rattle.laws.specs.KeyOrder.Order.{lower, equal, higher}
-use Rattle.search.specs.Keys.{before_equal}
-use Rattle.search.specs.Halving.{Halving, halving_all, halving_behind, halving_found, halving_front, halving_over}
+use Rattle.rows.specs.Keys.{before_equal}
+use Rattle.rows.specs.Halving.{Halving, halving_all, halving_behind, halving_found, halving_front, halving_over}
 use Rattle.lines.specs.Climbing.{NoneFrom, Behind}
 
 before_first : (x y : ℕ) (xs ys : List ℕ) → x < y → before (x ∷ xs) (y ∷ ys) ≡ true
@@ -78,6 +76,14 @@ module _ (a : ℕ) where
             | higher e f h ↦ (sym f, sym h)
           ]
 
+-- its row is lower, as the code asks by a key
+pub comes_before : (x : LineRow) (a g : ℕ) (k : List ℕ) (b : Bool)
+    → k ≡ key_of a g
+    → b ≡ before (line_key x) k
+    → b ≡ true
+    → before (line_key x) (key_of a g) ≡ true
+comes_before x a g k b its_key asked is_so = ap (before (line_key x)) (sym its_key) ∙ sym asked ∙ is_so
+
 -- the bound behind a group line of the list
 module _ (x : LineRow) (a g bound : ℕ) (low : before (line_key x) (key_of a g) ≡ true) (its_list : x.list.0 ≡ a)
     (its_kind : x.kind ≡ group_kind) where
@@ -107,48 +113,51 @@ module _ (x : LineRow) (a g bound : ℕ) (low : before (line_key x) (key_of a g)
         up_to_group = omega (arith, row_below);
       }
 
-module _ (lay : Layout) (img : List ℕ) (a g : ℕ) where
-  abbrev lines : List LineRow
-  lines = rows_in (line_format (width_of lay)) lay.lines img
-
+module _ (lines : List LineRow) (a g : ℕ) where
   abbrev HalvingFor : ℕ → ℕ → ℕ → Type 0
-  HalvingFor p first end = Halving (line_format (width_of lay)) line_key lay.lines img (key_of a p) no_line first end
+  HalvingFor p first end = Halving line_key lines (key_of a p) no_line first end
 
   -- the search for every group from the bound on, up to g, has come to the same two indices
   pub record Narrowing (first end bound : ℕ) : Type 0 where
     pub searches : (p : ℕ) → bound ≤ p → p ≤ g → HalvingFor p first end
     pub up_to_group : bound ≤ g
 
-  pub narrowing_all : Narrowing 0 lay.lines.used 0
+  pub narrowing_all : Narrowing 0 (length lines) 0
   narrowing_all =
       record {
-        searches = λ p from to. halving_all (line_format (width_of lay)) line_key lay.lines img (key_of a p) no_line;
+        searches = λ p from to. halving_all line_key lines (key_of a p) no_line;
         up_to_group = omega arith;
       }
 
-  pub narrowing_inside : (first end bound : ℕ) → Narrowing first end bound → end ≤ lay.lines.used
+  pub narrowing_inside : (first end bound : ℕ) → Narrowing first end bound → end ≤ length lines
   narrowing_inside first end bound h = (h.searches g h.up_to_group (le_of_eq refl)).inside
 
-  -- one step, as in the laws of halving
-  module _ (first end bound : ℕ) (h : Narrowing first end bound) (less : first < end) (m : ℕ) (half : m ≡ middle first end) (x : LineRow)
-      (read : x ≡ get_or lines m no_line) (b : Bool) (low : b ≡ before (line_key x) (key_of a g)) where
+  -- one step, as in the laws of halving; k is the key of the group's line
+  module _ (k : List ℕ) (its_key : k ≡ key_of a g) (first end bound : ℕ) (h : Narrowing first end bound) (less : first < end) (m : ℕ)
+      (half : m ≡ middle first end) (x : LineRow) (read : x ≡ get_or lines m no_line) (b : Bool) (asked : b ≡ before (line_key x) k) where
+    low : b ≡ before (line_key x) (key_of a g)
+    low = asked ∙ ap (before (line_key x)) its_key
+
     pub narrowing_behind : b ≡ true → (r : ℕ) → Behind x a g bound r → Narrowing (m + 1) end r
     narrowing_behind e r behind =
         record {
           searches =
               λ p from to.
-              halving_behind (line_format (width_of lay)) line_key lay.lines img (key_of a p) no_line first end
+              halving_behind line_key lines (key_of a p) no_line first end
               (h.searches p (omega (arith, behind.not_lower)) to) less m half x read true
               (lower_too a x g p (sym low ∙ e) (λ i j. omega (arith, behind.above_row i j))) refl;
           up_to_group = behind.up_to_group;
         }
 
-    module _ (not_low : b ≡ false) (c : Bool) (hit : c ≡ same (line_key x) (key_of a g)) where
-      pub narrowing_found : c ≡ true → find_row line_key (key_of a g) lines ≡ some x
+    module _ (not_low : b ≡ false) (c : Bool) (compared : c ≡ same (line_key x) k) where
+      hit : c ≡ same (line_key x) (key_of a g)
+      hit = compared ∙ ap (same (line_key x)) its_key
+
+      pub narrowing_found : c ≡ true → find_row line_key (key_of a g) lines ≡ Some x
       narrowing_found e =
           sym
           (ap (λ (f : Found LineRow). f.row)
-          (halving_found (line_format (width_of lay)) line_key lay.lines img (key_of a g) no_line first end
+          (halving_found line_key lines (key_of a g) no_line first end
           (h.searches g h.up_to_group (le_of_eq refl)) less m half x read b low not_low c hit e))
 
       pub narrowing_front : c ≡ false → Narrowing first m bound
@@ -157,7 +166,7 @@ module _ (lay : Layout) (img : List ℕ) (a g : ℕ) where
             searches =
                 λ p from to.
                 let above = higher_too a x g p to (sym low ∙ not_low) (sym hit ∙ e) in
-                halving_front (line_format (width_of lay)) line_key lay.lines img (key_of a p) no_line first end
+                halving_front line_key lines (key_of a p) no_line first end
                 (h.searches p from to) less m half x read false above.0 refl false above.1 refl;
             up_to_group = h.up_to_group;
           }
@@ -168,5 +177,5 @@ module _ (lay : Layout) (img : List ℕ) (a g : ℕ) where
     λ p from to.
         sym
         (ap (λ (f : Found LineRow). f.row)
-        (halving_over (line_format (width_of lay)) line_key lay.lines img (key_of a p) no_line first end (h.searches p from to) past)),
+        (halving_over line_key lines (key_of a p) no_line first end (h.searches p from to) past)),
   )

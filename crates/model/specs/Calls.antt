@@ -1,7 +1,6 @@
--- Document 01, "The calls": what each call answers, and the tables that it leaves, if it is not refused.
+-- The rules, "The calls": what each call answers, and the tables that it leaves, if it is not refused.
 -- The arguments of a call are plain numbers here, in the order in which the call takes them.
-use Rattle.std.specs.Prelude.{Bool, ◌&&◌, not, cond, List, [], ◌∷◌, ◌++◌, ℕ, zero, suc, ◌<◌, ◌^◌, length, set, eqb, ltb}
-use Rattle.std.proofs.Math.Option.{Option, get_or}
+use Rattle.std.specs.Prelude.{Bool, ◌&&◌, not, cond, List, [], ◌∷◌, ◌++◌, ℕ, zero, suc, ◌<◌, ◌^◌, length, set, eqb, ltb, Option, unwrap_or}
 use Rattle.model.specs.declared.SubjectRow.{SubjectRow}
 use Rattle.model.specs.declared.GrantRow.{GrantRow}
 use Rattle.model.specs.declared.LineRow.{LineRow}
@@ -72,7 +71,7 @@ sets_of (hand_over c i o) = []
 abbrev pub Handed : Change → Type 0
 Handed c = AllByRecursion (λ v. v < 2 ^ 32) (numbers_of c) × AllByRecursion (λ v. v < 2 ^ 32) (sets_of c)
 
--- Count holders (document 02, P2): how many subjects in use hold position n on item i, which means that their permission set under
+-- Count holders: how many subjects in use hold position n on item i, which means that their permission set under
 -- role 0 has it. The custodian is one of those who are looked at. Then these numbers for the first k positions, in their order.
 unfoldable pub holders : Tables → ℕ → ℕ → ℕ
 holders t i n = how_many (λ s. has n (permission_set t s 0 i)) (length t.subjects)
@@ -88,7 +87,7 @@ abbrev pub rows_before : ℕ → List LineRow → List LineRow
 rows_before a lines = select (λ l. ltb l.list.0 a) lines
 
 -- Editor search: s is an editor of list a if it is not the custodian and its permission set on a, under role 0, has the privilege
--- to edit a list. The search names the lowest subject in use that is one (document 02, P5).
+-- to edit a list. The search names the lowest subject in use that is one.
 abbrev pub is_editor : Tables → ℕ → ℕ → Bool
 is_editor t a s = not (eqb s custodian) && has edit_list (permission_set t s 0 a)
 
@@ -101,7 +100,7 @@ ask_result t check_image = 0
 ask_result t (operation_set_of s r) = operation_set t s r
 ask_result t (permission_set_of s r i) = permission_set t s r i
 ask_result t (list_count a) = length (rows_of a t.lines)
-ask_result t (find_editor a) = get_or (lowest_editor t a) 0
+ask_result t (find_editor a) = unwrap_or (lowest_editor t a) 0
 ask_result t (steps_up_of s h) = steps_number (steps_up (parent_in t.subjects) s h)
 
 -- The tables with the rows of one of them replaced and all else kept.

@@ -1,4 +1,4 @@
--- What a number that is answered for steps (document 02, P6) says of the subjects, without a climb: by following `up`, the step from
+-- What a number that is answered for steps says of the subjects, without a climb: by following `up`, the step from
 -- each to the next above it.
 use Rattle.std.specs.Prelude.{◌≢◌, ◌≡◌, ℕ, zero, suc, ◌<◌}
 use Rattle.model.specs.Tree.{outside}

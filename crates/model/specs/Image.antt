@@ -1,12 +1,15 @@
--- Document 01, "The image": bytes to tables, tables to bytes, and the rules of the rows and of the layout.
+-- The rules, "The image, byte by byte": bytes to tables, tables to bytes, and the rules of the rows and of the layout.
 use Rattle.std.specs.Prelude.{Bool, false, ◌&&◌, ◌||◌, not, cond, List, [], ◌∷◌, ◌++◌, ℕ, zero, suc, ◌+◌, ◌-◌, ◌*◌}
-use Rattle.std.specs.Prelude.{◌/◌, ◌%◌, ◌^◌, length, get_or, take, drop, replicate, eqb, ltb, leb}
+use Rattle.std.specs.Prelude.{◌≡◌, ◌<◌, Result, Ok, Err, ◌/◌, ◌%◌, ◌^◌, length, get_or, take, drop, replicate, eqb, ltb, leb}
 use Rattle.model.specs.declared.SubjectRow.{SubjectRow}
 use Rattle.model.specs.declared.GrantRow.{GrantRow}
 use Rattle.model.specs.declared.LineRow.{LineRow}
 use Rattle.model.specs.declared.ItemRow.{ItemRow}
 use Rattle.model.specs.declared.Table.{Table}
 use Rattle.model.specs.declared.Layout.{Layout}
+use Rattle.model.specs.declared.Kind.{Kind}
+use Rattle.model.specs.declared.Kind.TheVariants.{Itself, Group, Owner, Everyone}
+use Rattle.model.specs.declared.UnknownKind.{UnknownKind}
 use Rattle.model.specs.Lists.{all_of, total, every, every_numbered, zeros}
 use Rattle.model.specs.Sorted.{ascending}
 use Rattle.model.specs.Tree.{in_tree}
@@ -289,7 +292,7 @@ item_used rows zero = false
 item_used rows (suc n) = ltb n (length rows)
 
 -- The flag bits of an item. Bit 0 says that it is an access list, bit 1 that it is locked, bit 2 that the permission set of its
--- folder applies to it too (document 02, P7). There are no others.
+-- folder applies to it too. There are no others.
 
 abbrev pub list_flag : ℕ
 list_flag = 0
@@ -354,6 +357,18 @@ owner_kind = 2
 
 abbrev pub everyone_kind : ℕ
 everyone_kind = 3
+
+-- the code's enum of them
+abbrev pub kind_number : Kind → ℕ
+kind_number Itself = itself_kind
+kind_number Group = group_kind
+kind_number Owner = owner_kind
+kind_number Everyone = everyone_kind
+
+-- Reading a number as a kind gives the kind with that number, and fails on every other number.
+abbrev pub KindRead : ℕ → Result Kind UnknownKind → Type 0
+KindRead n (Ok kind) = n ≡ kind_number kind
+KindRead n (Err unknown) = (everyone_kind < n) × (unknown.0 ≡ n)
 
 -- there is no higher kind; a line for the owner or for everyone has subject 0
 abbrev pub kind_fits : ℕ → ℕ → Bool

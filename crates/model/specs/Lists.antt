@@ -1,6 +1,5 @@
--- General definitions about lists, which several sections of document 01 use.
-use Rattle.std.specs.Prelude.{Bool, true, false, ◌&&◌, cond, List, [], ◌∷◌, ℕ, zero, suc, ◌+◌, ◌<◌, eqb}
-use Rattle.std.proofs.Math.Option.{Option, none, some}
+-- General definitions about lists, which several sections of the rules use.
+use Rattle.std.specs.Prelude.{Bool, true, false, ◌&&◌, cond, List, [], ◌∷◌, ℕ, zero, suc, ◌+◌, ◌<◌, eqb, None, Option, Some}
 use Rattle.std.specs.List.{AllByRecursion}
 
 -- every test of a list is passed
@@ -40,13 +39,13 @@ module _ {A : Type 0} where
 
   -- the first row, if it is there; otherwise the second
   abbrev pub or_else : Option A → Option A → Option A
-  or_else none b = b
-  or_else (some a) b = some a
+  or_else None b = b
+  or_else (Some a) b = Some a
 
   -- a row that may be missing is there and passes a test
   abbrev pub if_there : (A → Bool) → Option A → Bool
-  if_there test none = false
-  if_there test (some a) = test a
+  if_there test None = false
+  if_there test (Some a) = test a
 
   -- a row that may be missing is there
   abbrev pub is_there : Option A → Bool
@@ -54,8 +53,8 @@ module _ {A : Type 0} where
 
 -- the lowest of the numbers below n that passes a test, if one does
 unfoldable pub lowest_passing : (ℕ → Bool) → ℕ → Option ℕ
-lowest_passing test zero = none
-lowest_passing test (suc n) = or_else (lowest_passing test n) (cond (test n) (some n) none)
+lowest_passing test zero = None
+lowest_passing test (suc n) = or_else (lowest_passing test n) (cond (test n) (Some n) None)
 
 -- nothing but zeros
 abbrev pub zeros : List ℕ → Bool

@@ -1,15 +1,12 @@
--- Document 01, "How a permission is found": the lines' part, the grant of a claimed role, and the sets that these make. An item's
--- own set and its permission set are two things: the permission set is also cut by the folders that apply (document 02, P7).
-use Rattle.std.specs.Prelude.{Bool, ◌&&◌, not, cond, List, [], ◌∷◌, ℕ, zero, suc, eqb, ltb}
-use Rattle.std.proofs.Math.Option.{Option, none, some}
+-- The rules, "How a permission is found": the lines' part, the grant of a claimed role, and the sets that these make. An item's
+-- own set and its permission set are two things: the permission set is also cut by the folders that apply.
+use Rattle.std.specs.Prelude.{Bool, ◌&&◌, not, cond, List, [], ◌∷◌, ℕ, zero, suc, eqb, ltb, None, Option, Some}
 use Rattle.model.specs.declared.GrantRow.{GrantRow}
 use Rattle.model.specs.declared.ItemRow.{ItemRow}
 use Rattle.model.specs.declared.LineRow.{LineRow}
 use Rattle.model.specs.declared.Explanation.{Explanation}
 use Rattle.model.specs.declared.Rule.{Rule}
 use Rattle.model.specs.declared.Rule.TheVariants.{Custodian, OwnerLine, OwnLine, GroupLine, NothingFound}
-use Rattle.model.specs.declared.SoughtGrant.{SoughtGrant}
-use Rattle.model.specs.declared.SoughtGrant.TheVariants.{Grant, NoGrant}
 use Rattle.model.specs.Lists.{or_else}
 use Rattle.model.specs.Sorted.{find_row}
 use Rattle.model.specs.Tree.{steps_up, in_tree, steps_number}
@@ -19,28 +16,28 @@ use Rattle.model.specs.Image.{grant_key, line_key, parent_in, privileges_in, ite
 
 -- The line of list a for a kind and a subject. List 0 is no list and has no lines.
 abbrev pub line_in : List LineRow → ℕ → ℕ → ℕ → Option LineRow
-line_in lines zero kind s = none
+line_in lines zero kind s = None
 line_in lines (suc a) kind s = find_row line_key (suc a ∷ kind ∷ s ∷ []) lines
 
 abbrev pub line_set : Option LineRow → ℕ
-line_set none = 0
-line_set (some l) = l.privileges
+line_set None = 0
+line_set (Some l) = l.privileges
 
 -- The group search. It climbs from s to its parent, on to that one's parent, and so on, and answers the first group line that
 -- it meets. The custodian is the last one that it looks at. A climb from s has at most s steps: the first argument is how many
 -- are still allowed.
 unfoldable pub group_within : ℕ → (ℕ → ℕ) → List LineRow → ℕ → ℕ → Option LineRow
-group_within zero up lines s a = none
+group_within zero up lines s a = None
 group_within (suc n) up lines s a =
-    cond (ltb (up s) s) (or_else (line_in lines a group_kind (up s)) (group_within n up lines (up s) a)) none
+    cond (ltb (up s) s) (or_else (line_in lines a group_kind (up s)) (group_within n up lines (up s) a)) None
 
 unfoldable pub group_line : (ℕ → ℕ) → List LineRow → ℕ → ℕ → Option LineRow
 group_line up lines s a = group_within s up lines s a
 
 -- The rule that a line decides, if there is one. Otherwise the next rule.
 abbrev pub rule_by : (LineRow → Rule) → Option LineRow → Rule → Rule
-rule_by rule none next = next
-rule_by rule (some l) next = rule l
+rule_by rule None next = next
+rule_by rule (Some l) next = rule l
 
 -- The group line that the search meets first. If it meets none, nothing was found.
 unfoldable pub group_rule : (ℕ → ℕ) → List LineRow → ℕ → ℕ → Rule
@@ -50,7 +47,7 @@ group_rule up lines s a = rule_by GroupLine (group_line up lines s a) NothingFou
 unfoldable pub own_rule : (ℕ → ℕ) → List LineRow → ℕ → ℕ → Rule
 own_rule up lines s a = rule_by OwnLine (line_in lines a itself_kind s) (group_rule up lines s a)
 
--- The owner line, even one without privileges. If there is none, the owner's own line counts as anybody's does (document 02, P4).
+-- The owner line, even one without privileges. If there is none, the owner's own line counts as anybody's does.
 unfoldable pub owner_rule : (ℕ → ℕ) → List LineRow → ℕ → ℕ → Rule
 owner_rule up lines s a = rule_by OwnerLine (line_in lines a owner_kind 0) (own_rule up lines s a)
 
@@ -106,32 +103,27 @@ lines_part t s i = part_on t s (item_in t.items i)
 
 -- The grant to subject s under role r, if there is one. Role 0 is no role and has no grant.
 abbrev pub grant_in : List GrantRow → ℕ → ℕ → Option GrantRow
-grant_in grants s zero = none
+grant_in grants s zero = None
 grant_in grants s (suc r) = find_row grant_key (s ∷ suc r ∷ []) grants
-
--- the code's answer, as a grant that may be missing
-abbrev pub found_grant : SoughtGrant → Option GrantRow
-found_grant (Grant g) = some g
-found_grant NoGrant = none
 
 abbrev pub grant_of : Tables → ℕ → ℕ → Option GrantRow
 grant_of t s r = grant_in t.grants s r
 
 -- What a grant adds to the operation set: those of its privileges that the grantor's own row has too.
 abbrev pub lent_operations : Tables → Option GrantRow → ℕ
-lent_operations t none = 0
-lent_operations t (some g) = g.privileges ∩ privileges_in t.subjects g.grantor.0
+lent_operations t None = 0
+lent_operations t (Some g) = g.privileges ∩ privileges_in t.subjects g.grantor.0
 
 -- The steps from the owner of an item whose row is x up to the domain of a grant; none without a grant.
 abbrev pub domain_steps : Tables → Option GrantRow → ItemRow → Option ℕ
-domain_steps t none x = none
-domain_steps t (some g) x = steps_up (parent_in t.subjects) x.owner.0 g.domain.0
+domain_steps t None x = None
+domain_steps t (Some g) x = steps_up (parent_in t.subjects) x.owner.0 g.domain.0
 
 -- What a grant adds to the object set on an item whose row is x. If the item's owner is in the tree of the grant's domain, it
 -- adds those of its privileges that the grantor's lines' part on the item has too. Otherwise it adds nothing.
 abbrev pub lent_on : Tables → Option GrantRow → ItemRow → ℕ
-lent_on t none x = 0
-lent_on t (some g) x = cond (in_tree (parent_in t.subjects) g.domain.0 x.owner.0) (g.privileges ∩ part_on t g.grantor.0 x) 0
+lent_on t None x = 0
+lent_on t (Some g) x = cond (in_tree (parent_in t.subjects) g.domain.0 x.owner.0) (g.privileges ∩ part_on t g.grantor.0 x) 0
 
 abbrev pub lent_part : Tables → Option GrantRow → ℕ → ℕ
 lent_part t g i = lent_on t g (item_in t.items i)
@@ -186,8 +178,8 @@ own_set t s r i = own_under t s (grant_of t s r) i
 abbrev pub permission_set : Tables → ℕ → ℕ → ℕ → ℕ
 permission_set t s r i = permission_under t s (grant_of t s r) i
 
--- The explanation of the item's own set (document 02, P1): the deciding rule, the sets that are put together, the operation set,
--- which cuts them, the steps from the item's owner up to the grant's domain (P6), and the folder that applies (P7). First on an
+-- The explanation of the item's own set: the deciding rule, the sets that are put together, the operation set,
+-- which cuts them, the steps from the item's owner up to the grant's domain, and the folder that applies. First on an
 -- item whose row is x and under a grant that may be missing, then on item i, then under the role that s claims.
 
 abbrev pub explanation_on : Tables → ℕ → Option GrantRow → ItemRow → Explanation

@@ -1,7 +1,6 @@
--- Document 02, P4, amends equation 8 of document 01's source. As printed, an owner without an owner line goes to the groups at
+-- The rule for owners as it was printed, before it was amended: an owner without an owner line goes to the groups at
 -- once, past its own line. No call answers by this rule. It stands here so that theorems can say what the amendment changes.
-use Rattle.std.specs.Prelude.{cond, List, ◌≢◌, ◌≡◌, ℕ, eqb}
-use Rattle.std.proofs.Math.Option.{none, some}
+use Rattle.std.specs.Prelude.{cond, List, ◌≢◌, ◌≡◌, ℕ, eqb, None, Some}
 use Rattle.model.specs.declared.ItemRow.{ItemRow}
 use Rattle.model.specs.declared.LineRow.{LineRow}
 use Rattle.model.specs.declared.Rule.{Rule}
@@ -32,5 +31,5 @@ printed_part t s i = printed_part_on t s (item_in t.items i)
 pub record NamedOwner (t : Tables) (s : ℕ) (x : ItemRow) (l : LineRow) : Type 0 where
   pub other : s ≢ custodian
   pub owns : s ≡ x.owner.0
-  pub no_owner_line : line_in t.lines x.list.0 owner_kind 0 ≡ none
-  pub own_line : line_in t.lines x.list.0 itself_kind s ≡ some l
+  pub no_owner_line : line_in t.lines x.list.0 owner_kind 0 ≡ None
+  pub own_line : line_in t.lines x.list.0 itself_kind s ≡ Some l

@@ -1,14 +1,16 @@
--- Document 01, "Questions before each call": the questions of each call as one list, in the document's order, and the first
+-- The rules, "The questions, in their order": the questions of each call as one list, and the first
 -- one answered no. Then what a call answers and leaves, for any list of bytes and any numbers.
-use Rattle.std.specs.Prelude.{Bool, ◌&&◌, ◌||◌, not, cond, List, [], ◌∷◌, ◌++◌, ◌≡◌, ℕ, ◌+◌, ◌*◌, length, take, drop}
-use Rattle.std.specs.Prelude.{eqb, ltb, leb}
-use Rattle.std.proofs.Math.Option.{Option}
+use Rattle.std.specs.Prelude.{Option, Result, Ok, Err, Bool, ◌&&◌, ◌||◌, not, cond, List, [], ◌∷◌, ◌++◌, ◌≡◌, ℕ, ◌+◌, ◌*◌}
+use Rattle.std.specs.Prelude.{length, take, drop, eqb, ltb, leb}
 use Rattle.model.specs.declared.Answer.{Answer}
 use Rattle.model.specs.declared.Explanation.{Explanation}
 use Rattle.model.specs.declared.GrantRow.{GrantRow}
 use Rattle.model.specs.declared.Layout.{Layout}
-use Rattle.model.specs.declared.Opened.{Opened}
-use Rattle.model.specs.declared.Opened.TheVariants.{With, Refused}
+use Rattle.model.specs.declared.refusal.Refusal.{Refusal}
+use Rattle.model.specs.declared.refusal.Refusal.TheVariants.{BadLength, BadLayout, BadSubjectRow, BadItemRow, BadLineRow, BadGrantRow}
+use Rattle.model.specs.declared.refusal.Refusal.TheVariants.{UnusedRowNotZero, UnknownCaller, UnknownSubject, UnknownItem, BadCountsLength}
+use Rattle.model.specs.declared.refusal.Refusal.TheVariants.{NotAList, OutOfRange, NotPermitted, OutsideTree, NoSuchRow, NotTheGrantor}
+use Rattle.model.specs.declared.refusal.Refusal.TheVariants.{TableFull, NoEditor}
 use Rattle.model.specs.Lists.{all_of, if_there, is_there, Bytes}
 use Rattle.model.specs.Sorted.{find_row}
 use Rattle.model.specs.Tree.{in_tree}
@@ -30,6 +32,42 @@ pub record Question : Type 0 where
 infix 85 ◌asks◌
 abbrev pub ◌asks◌ : ℕ → Bool → Question
 n asks b = record { number = n; answer = b }
+
+-- the number of each refusal
+abbrev pub refusal_number : Refusal → ℕ
+refusal_number BadLength = 1
+refusal_number BadLayout = 2
+refusal_number BadSubjectRow = 3
+refusal_number BadItemRow = 4
+refusal_number BadLineRow = 5
+refusal_number BadGrantRow = 6
+refusal_number UnusedRowNotZero = 7
+refusal_number UnknownCaller = 10
+refusal_number UnknownSubject = 11
+refusal_number UnknownItem = 12
+refusal_number NotAList = 13
+refusal_number OutOfRange = 14
+refusal_number NotPermitted = 15
+refusal_number OutsideTree = 16
+refusal_number NoSuchRow = 17
+refusal_number NotTheGrantor = 18
+refusal_number TableFull = 19
+refusal_number NoEditor = 20
+refusal_number BadCountsLength = 21
+
+-- the code's result with the number of its refusal
+abbrev pub by_number : {A : Type 0} → Result A Refusal → Result A ℕ
+by_number (Ok x) = Ok x
+by_number (Err refusal) = Err (refusal_number refusal)
+
+-- the number of that refusal; 0 if there is none
+abbrev pub refused_by : {A : Type 0} → Result A Refusal → ℕ
+refused_by (Ok x) = 0
+refused_by (Err refusal) = refusal_number refusal
+
+-- x, or the refusal n where there is one
+abbrev pub unless : {A : Type 0} → ℕ → A → Result A ℕ
+unless n x = cond (eqb n 0) (Ok x) (Err n)
 
 -- the refusal: the number of the first question answered no; 0 if there is none
 unfoldable pub first_no : List Question → ℕ
@@ -158,6 +196,11 @@ questions t (hand_over c i o) =
 abbrev pub answer : ℕ → ℕ → Answer
 answer n r = record { number = n; result = r }
 
+-- what a call answers, in the form in which C receives it
+abbrev pub answer_of : Result ℕ Refusal → Answer
+answer_of (Ok r) = answer 0 r
+answer_of (Err refusal) = answer (refusal_number refusal) 0
+
 -- A refused call answers its refusal n and 0. Any other call answers 0 and its result r.
 abbrev pub answered : ℕ → ℕ → Answer
 answered n r = answer n (cond (eqb n 0) r 0)
@@ -166,14 +209,13 @@ answered n r = answer n (cond (eqb n 0) r 0)
 unfoldable pub check : List ℕ → ℕ
 check img = first_no (image_questions img)
 
--- What opening an image answers: its layout if every question of the check is answered yes, otherwise the refusal.
-unfoldable pub opened : List ℕ → Opened
-opened img = cond (eqb (check img) 0) (With (layout_of img)) (Refused (check img))
+-- What opening an image answers: its layout, or its tables, if every question of the check is answered yes, otherwise the
+-- refusal.
+unfoldable pub opened : List ℕ → Result Layout ℕ
+opened img = unless (check img) (layout_of img)
 
--- the number of each case: 0 for an opened image, otherwise the refusal
-abbrev pub refusal_of : Opened → ℕ
-refusal_of (With lay) = 0
-refusal_of (Refused n) = n
+unfoldable pub opened_tables : List ℕ → Result Tables ℕ
+opened_tables img = unless (check img) (tables img)
 
 -- An accepted image: a list of bytes that has no question of the check answered no.
 pub record Accepted (img : List ℕ) : Type 0 where
@@ -198,6 +240,11 @@ refused_explanation n =
       steps = 0;
       folder = 0;
     }
+
+-- what explain answers, in the form in which C receives it
+abbrev pub explanation_of : Result Explanation Refusal → Explanation
+explanation_of (Ok e) = e
+explanation_of (Err refusal) = refused_explanation (refusal_number refusal)
 
 abbrev pub explained : ℕ → Explanation → Explanation
 explained n e = cond (eqb n 0) e (refused_explanation n)

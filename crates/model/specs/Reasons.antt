@@ -1,8 +1,6 @@
--- Document 02, P1: what the fields of an explanation say of the rows. No search is mentioned: a line stands in the table, or none
+-- What the fields of an explanation say of the rows. No search is mentioned: a line stands in the table, or none
 -- does. That every explanation fulfils this is a theorem of `laws`.
-use Rattle.std.specs.Prelude.{List, ◌≢◌, ◌≡◌, ℕ, T}
-use Rattle.std.proofs.Math.Option.{some}
-use Rattle.std.proofs.Math.ListN.{get_elem?}
+use Rattle.std.specs.Prelude.{List, ◌≢◌, ◌≡◌, ℕ, T, Some, slice_get}
 use Rattle.model.specs.declared.ItemRow.{ItemRow}
 use Rattle.model.specs.declared.LineRow.{LineRow}
 use Rattle.model.specs.Tree.{below}
@@ -11,7 +9,7 @@ use Rattle.model.specs.Image.{Tables, width_in, line_row, parent_in, itself_kind
 
 -- the line is one of the rows
 abbrev pub Stands : List LineRow → LineRow → Type 0
-Stands lines l = (n : ℕ) × (get_elem? lines n ≡ some l)
+Stands lines l = (n : ℕ) × (slice_get lines n ≡ Some l)
 
 -- list a has no line of this kind for subject h, whatever its privileges
 abbrev pub Absent : List LineRow → ℕ → ℕ → ℕ → Type 0

@@ -1,6 +1,6 @@
--- Document 01, "The sample workshop": the tables, and the twelve sets that are proved. Then the explanation of each of them
--- (document 02, P1), how many subjects hold each position (P2), owners without an owner line (P4), whom the editor search names
--- (P5), how many steps lead up from one subject to another (P6), and items in folders (P7).
+-- The sample workshop: the tables, and the twelve sets that are proved. Then the explanation of each of them, how many
+-- subjects hold each position, owners without an owner line, whom the editor search names, how many steps lead up from one
+-- subject to another, and items in folders.
 use Rattle.std.specs.Prelude.{Bool, ◌&&◌, List, [], ◌∷◌, ◌++◌, ℕ, eqb, replicate}
 use Rattle.model.specs.declared.Answer.{Answer}
 use Rattle.model.specs.declared.Explanation.{Explanation}

@@ -1,4 +1,4 @@
--- Document 02, P7: what the explanations along the folders that apply share, asked for one after the other. It stands here for
+-- What the explanations along the folders that apply share, asked for one after the other. It stands here for
 -- theorems alone: that it is the permission set is a theorem of `laws`.
 use Rattle.std.specs.Prelude.{List, ◌≢◌, ◌≡◌, ℕ}
 use Rattle.model.specs.WhoAndWhat.{◌∩◌}

@@ -1,7 +1,5 @@
 -- Tables that are strictly ascending by a key. A key is a list of numbers, compared from the left.
-use Rattle.std.specs.Prelude.{Bool, true, false, ◌&&◌, ◌||◌, cond, List, [], ◌∷◌, ℕ, zero, suc, ◌+◌, ◌-◌, ◌/◌, eqb, ltb, length}
-use Rattle.std.proofs.Math.Option.{Option, none, some}
-use Rattle.std.proofs.Math.ListN.{get_elem?}
+use Rattle.std.specs.Prelude.{Bool, true, false, ◌&&◌, ◌||◌, cond, List, [], ◌∷◌, ℕ, zero, suc, ◌+◌, ◌-◌, ◌/◌, eqb, ltb, length, None, Option, Some, slice_get}
 use Rattle.model.specs.Lists.{select, if_there}
 
 -- the first key is lower than the second
@@ -40,8 +38,8 @@ module _ {A : Type 0} (key : A → List ℕ) where
 
   -- the row with key k, if there is one
   abbrev pub row_with : List ℕ → List A → Option A
-  row_with k [] = none
-  row_with k (x ∷ xs) = cond (same (key x) k) (some x) (row_with k xs)
+  row_with k [] = None
+  row_with k (x ∷ xs) = cond (same (key x) k) (Some x) (row_with k xs)
 
   -- how many rows have a key lower than k
   abbrev pub count_lower : List ℕ → List A → ℕ
@@ -49,20 +47,20 @@ module _ {A : Type 0} (key : A → List ℕ) where
 
   -- the row with index n is there, and its key is lower than k; and is k
   abbrev pub lower_at : List ℕ → List A → ℕ → Bool
-  lower_at k xs n = if_there (λ x. before (key x) k) (get_elem? xs n)
+  lower_at k xs n = if_there (λ x. before (key x) k) (slice_get xs n)
 
   abbrev pub same_at : List ℕ → List A → ℕ → Bool
-  same_at k xs n = if_there (λ x. same (key x) k) (get_elem? xs n)
+  same_at k xs n = if_there (λ x. same (key x) k) (slice_get xs n)
 
   -- Halving: the row in the middle decides whether the search goes on behind it, ends there, or goes on in front of it. The
   -- first argument is how many steps are still allowed.
   unfoldable pub halve : ℕ → List ℕ → List A → ℕ → ℕ → Found A
-  halve zero k xs first end = found first none
+  halve zero k xs first end = found first None
   halve (suc n) k xs first end =
       let m : ℕ = middle first end in
       cond (ltb first end)
-      (cond (lower_at k xs m) (halve n k xs (suc m) end) (cond (same_at k xs m) (found m (get_elem? xs m)) (halve n k xs first m)))
-      (found first none)
+      (cond (lower_at k xs m) (halve n k xs (suc m) end) (cond (same_at k xs m) (found m (slice_get xs m)) (halve n k xs first m)))
+      (found first None)
 
   -- The search for key k. In an ascending table, and an accepted image has no others, it answers the row with the key and the
   -- number of rows with a lower one. Elsewhere it answers what halving comes to, so that it is defined for any rows.

@@ -1,17 +1,14 @@
 -- Climbing from a number to lower ones. `up` is the step, for example from a subject to its parent. A step that does not go to
 -- a lower number ends the climb, so a climb from s has at most s steps.
-use Rattle.std.specs.Prelude.{Bool, ◌&&◌, not, cond, ℕ, zero, suc, eqb, ltb}
-use Rattle.std.proofs.Math.Option.{Option, none, some, map, get_or}
-use Rattle.model.specs.declared.SoughtSteps.{SoughtSteps}
-use Rattle.model.specs.declared.SoughtSteps.TheVariants.{Steps, Outside}
+use Rattle.std.specs.Prelude.{Bool, ◌&&◌, not, cond, ℕ, zero, suc, eqb, ltb, None, Option, Some, option_map, unwrap_or}
 use Rattle.model.specs.Lists.{is_there}
 
 -- How many steps lead from s up to h, if a climb from s meets h; the first argument is how many steps are still allowed.
 unfoldable pub steps_within : ℕ → (ℕ → ℕ) → ℕ → ℕ → Option ℕ
-steps_within zero up s h = cond (eqb s h) (some 0) none
-steps_within (suc n) up s h = cond (eqb s h) (some 0) (cond (ltb (up s) s) (map suc (steps_within n up (up s) h)) none)
+steps_within zero up s h = cond (eqb s h) (Some 0) None
+steps_within (suc n) up s h = cond (eqb s h) (Some 0) (cond (ltb (up s) s) (option_map suc (steps_within n up (up s) h)) None)
 
--- The steps from s up to h (document 02, P6): 0 where s is h, 1 where h is the next above s, and so on; none if s is outside the tree
+-- The steps from s up to h: 0 where s is h, 1 where h is the next above s, and so on; none if s is outside the tree
 -- of h.
 unfoldable pub steps_up : (ℕ → ℕ) → ℕ → ℕ → Option ℕ
 steps_up up s h = steps_within s up s h
@@ -29,9 +26,4 @@ abbrev pub outside : ℕ
 outside = 4294967295
 
 abbrev pub steps_number : Option ℕ → ℕ
-steps_number steps = get_or steps outside
-
--- the code's answer, as steps that may be missing
-abbrev pub found_steps : SoughtSteps → Option ℕ
-found_steps (Steps n) = some n
-found_steps Outside = none
+steps_number steps = unwrap_or steps outside

@@ -1,4 +1,4 @@
--- Document 01, "Who and what": numbers and privilege sets. Subjects are counted from 0, which is the custodian, and items
+-- The rules, "Numbers and sets": numbers and privilege sets. Subjects are counted from 0, which is the custodian, and items
 -- from 1. Role 0 is no role. A privilege set is a number; its bit n says whether position n is in the set. The positions are
 -- read (0), replace (1), discard (2), annotate (3), create items (4), define subjects (5) and edit an access list (6). All
 -- higher ones belong to the host.

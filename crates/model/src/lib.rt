@@ -1,43 +1,47 @@
-// The basic types, constants and functions of the library: numbers, rows, privilege positions, calls. specs/ defines what they
-// mean, in one file for each section of document 01.
+//! The basic types, constants and functions of the library: numbers, rows, privilege positions, calls. specs/ defines what they
+//! mean, in one file for each section of docs/RULES.md.
 #![tactic(auto)]
 
 ghost use Rattle.std.specs.Prelude.{◌≡◌};
-ghost use Rattle.model.specs.Tree.{steps_number, found_steps};
+ghost use Rattle.model.specs.Tree.{steps_number};
 ghost use Rattle.model.specs.WhoAndWhat.{mask_of, needed_position, has, within, ◌∪◌, ◌∩◌};
 ghost use Rattle.model.specs.Image.{subject_row, grant_row, line_row, item_row, with_list, with_owner};
-ghost use Rattle.model.specs.Image.{list_flag, locked_flag, folder_flag, flags_fit};
+ghost use Rattle.model.specs.Image.{list_flag, locked_flag, folder_flag, flags_fit, kind_number, KindRead};
 ghost use Rattle.model.specs.Permission.{rule_number, rule_group, rule_set, folder_on};
-ghost use Rattle.model.specs.Questions.{answer, refused_explanation};
+ghost use Rattle.model.specs.Questions.{answer, answer_of, refused_explanation, explanation_of};
 
-pub mod refusal;
+pub use crate::refusal::Refusal;
 
-// A subject, an item and a role are each a number with a type of its own, so that no call takes one for another.
+mod refusal;
+
+/// A subject by its number. Subjects, items and roles are numbers of types of their own, so that no call takes one for another.
 #[repr(C)]
-#[derive(Clone, Copy)]
+#[derive(Clone, Copy, Debug, PartialEq, Eq, PartialOrd, Ord)]
 pub struct Subject(pub u32);
 
+/// An item by its number; 0 is no item.
 #[repr(C)]
-#[derive(Clone, Copy)]
+#[derive(Clone, Copy, Debug, PartialEq, Eq, PartialOrd, Ord)]
 pub struct Item(pub u32);
 
+/// A role by its number; 0 is no role.
 #[repr(C)]
-#[derive(Clone, Copy)]
+#[derive(Clone, Copy, Debug, PartialEq, Eq, PartialOrd, Ord)]
 pub struct Role(pub u32);
 
-// A set of privileges: bit n is position n. One alias, so that its width stands once.
+/// A set of privileges: bit n is position n. One alias, so that its width stands once.
 pub type Privileges = u32;
 
 pub const CUSTODIAN: u32 = 0;
 
-#[derive(Clone, Copy)]
+#[derive(Clone, Copy, Debug, PartialEq, Eq)]
 pub struct SubjectRow {
     pub parent: Subject,
     pub privileges: Privileges,
     pub creator: Subject,
 }
 
-#[derive(Clone, Copy)]
+#[derive(Clone, Copy, Debug, PartialEq, Eq)]
 pub struct GrantRow {
     pub receiver: Subject,
     pub role: Role,
@@ -46,7 +50,7 @@ pub struct GrantRow {
     pub privileges: Privileges,
 }
 
-#[derive(Clone, Copy)]
+#[derive(Clone, Copy, Debug, PartialEq, Eq)]
 pub struct LineRow {
     pub list: Item,
     pub kind: u32,
@@ -54,7 +58,7 @@ pub struct LineRow {
     pub privileges: Privileges,
 }
 
-#[derive(Clone, Copy)]
+#[derive(Clone, Copy, Debug, PartialEq, Eq)]
 pub struct ItemRow {
     pub owner: Subject,
     pub list: Item,
@@ -62,8 +66,8 @@ pub struct ItemRow {
     pub folder: Item,
 }
 
-// The rule that decides what the lines of an item's list give a subject, with the line that it found.
-#[derive(Clone, Copy)]
+/// The rule that decides what the lines of an item's list give a subject, with the line that it found.
+#[derive(Clone, Copy, Debug, PartialEq, Eq)]
 pub enum Rule {
     Custodian,
     OwnerLine(LineRow),
@@ -72,30 +76,16 @@ pub enum Rule {
     NothingFound,
 }
 
-// The grant that a subject holds, or might hold, under a role; or that there is none.
-#[derive(Clone, Copy)]
-pub enum SoughtGrant {
-    Grant(GrantRow),
-    NoGrant,
-}
-
-// How many steps lead from a subject up to the root of a tree; or that it is outside that tree.
-#[derive(Clone, Copy)]
-pub enum SoughtSteps {
-    Steps(u32),
-    Outside,
-}
-
-// One table of an image: how many rows are in use, the offset at which it starts, and the offset right behind its last byte.
-#[derive(Clone, Copy)]
+/// One table of an image: how many rows are in use, the offset at which it starts, and the offset right behind its last byte.
+#[derive(Clone, Copy, Debug, PartialEq, Eq)]
 pub struct Table {
     pub used: u32,
     pub start: u32,
     pub end: u32,
 }
 
-// Where the four tables of an image start and end.
-#[derive(Clone, Copy)]
+/// Where the four tables of an image start and end.
+#[derive(Clone, Copy, Debug, PartialEq, Eq)]
 pub struct Layout {
     pub subjects: Table,
     pub grants: Table,
@@ -103,16 +93,9 @@ pub struct Layout {
     pub items: Table,
 }
 
-// What opening an image answers: the layout of an accepted image, or the refusal.
-#[derive(Clone, Copy)]
-pub enum Opened {
-    With(Layout),
-    Refused(u32),
-}
-
-// What a call answers: 0 and its result, or the refusal and 0.
+/// What a call answers: 0 and its result, or the refusal and 0.
 #[repr(C)]
-#[derive(Clone, Copy)]
+#[derive(Clone, Copy, Debug, PartialEq, Eq)]
 pub struct Answer {
     pub number: u32,
     pub result: u32,
@@ -125,18 +108,29 @@ impl Answer {
         Answer { number, result: 0 }
     }
 
-    pub fn done(res: u32) -> Answer
-        ensures { result ≡ answer 0 res }
+    pub fn done(value: u32) -> Answer
+        ensures { result ≡ answer 0 value }
     {
         Answer {
             number: 0,
-            result: res,
+            result: value,
+        }
+    }
+}
+
+impl From<Result<u32, Refusal>> for Answer {
+    ghost from_gives = { λ r a. a ≡ answer_of r };
+
+    fn from(asked: Result<u32, Refusal>) -> Answer {
+        match asked {
+            Ok(value) => Answer::done(value),
+            Err(refusal) => Answer::refused(refusal.number()),
         }
     }
 }
 
 impl Rule {
-    // The number of the rule.
+    /// The number of the rule.
     pub fn number(self) -> u32
         ensures { result ≡ rule_number self }
     {
@@ -149,7 +143,7 @@ impl Rule {
         }
     }
 
-    // The subject whose group line it was. It is 0 for every other rule.
+    /// The subject whose group line it was. It is 0 for every other rule.
     pub fn group(self) -> u32
         ensures { result ≡ rule_group self }
     {
@@ -162,7 +156,7 @@ impl Rule {
         }
     }
 
-    // The privileges that the rule gives, where the custodian gets `all`.
+    /// The privileges that the rule gives, where the custodian gets `all`.
     pub fn set(self, all: Privileges) -> Privileges
         ensures { result ≡ rule_set all self }
     {
@@ -176,26 +170,21 @@ impl Rule {
     }
 }
 
-impl SoughtSteps {
-    // The number that is answered for a subject that is outside.
-    pub const OUTSIDE: u32 = 4294967295;
+/// The number that is answered for a subject that is outside a tree.
+pub const OUTSIDE: u32 = 4294967295;
 
-    // The number that is answered.
-    pub fn number(self) -> u32
-        ensures { result ≡ steps_number (found_steps self) }
-    {
-        match self {
-            SoughtSteps::Steps(count) => count,
-            SoughtSteps::Outside => SoughtSteps::OUTSIDE,
-        }
-    }
+/// The number that is answered for the steps up to the root of a tree.
+pub fn steps_number(steps: Option<u32>) -> u32
+    ensures { result ≡ steps_number steps }
+{
+    steps.unwrap_or(OUTSIDE)
 }
 
-// Why an item's own set is what it is: 0, the rule that decided, the subject whose group line that was, the sets that are put
-// together, the steps from the item's owner up to the grant's domain, and the folder that applies, or 0. Or the refusal, and 0 in
-// every other field.
+/// Why an item's own set is what it is: 0, the rule that decided, the subject whose group line that was, the sets that are put
+/// together, the steps from the item's owner up to the grant's domain, and the folder that applies, or 0. Or the refusal, and 0 in
+/// every other field.
 #[repr(C)]
-#[derive(Clone, Copy)]
+#[derive(Clone, Copy, Debug, PartialEq, Eq)]
 pub struct Explanation {
     pub number: u32,
     pub rule: u32,
@@ -226,10 +215,21 @@ impl Explanation {
     }
 }
 
+impl From<Result<Explanation, Refusal>> for Explanation {
+    ghost from_gives = { λ r e. e ≡ explanation_of r };
+
+    fn from(asked: Result<Explanation, Refusal>) -> Explanation {
+        match asked {
+            Ok(explanation) => explanation,
+            Err(refusal) => Explanation::refused(refusal.number()),
+        }
+    }
+}
+
 impl Layout {
-    // How many bytes the header has.
+    /// How many bytes the header has.
     pub const HEADER: usize = 36;
-    // The offsets at which the header counts the rows in use of each table.
+    /// The offsets at which the header counts the rows in use of each table.
     pub const SUBJECTS_USED: usize = 0;
 
     pub const GRANTS_USED: usize = 8;
@@ -237,9 +237,10 @@ impl Layout {
     pub const LINES_USED: usize = 16;
 
     pub const ITEMS_USED: usize = 24;
-    // How many bytes the shortest and the longest image have.
+    /// How many bytes the shortest image has.
     pub const SHORTEST: usize = 36;
 
+    /// How many bytes the longest image has.
     pub const LONGEST: usize = 65536;
 }
 
@@ -281,16 +282,6 @@ impl GrantRow {
 
 impl LineRow {
     pub const SIZE: usize = 16;
-    // The kinds of a line.
-    pub const ITSELF: u32 = 0;
-
-    pub const GROUP: u32 = 1;
-
-    pub const OWNER: u32 = 2;
-
-    pub const EVERYONE: u32 = 3;
-    // How many kinds there are: no line has this one.
-    pub const KINDS: u32 = 4;
 
     pub fn new(list: Item, kind: u32, subject: Subject, privileges: Privileges) -> LineRow
         ensures { result ≡ line_row list.0 kind subject.0 privileges }
@@ -304,15 +295,60 @@ impl LineRow {
     }
 }
 
+/// Whom a line is for. A row holds the number of its kind, as any bytes can be read.
+#[derive(Clone, Copy, Debug, PartialEq, Eq)]
+pub enum Kind {
+    Itself,
+    Group,
+    Owner,
+    Everyone,
+}
+
+/// No kind has this number.
+#[derive(Clone, Copy, Debug, PartialEq, Eq)]
+pub struct UnknownKind(pub u32);
+
+impl Kind {
+    /// How many kinds there are: no kind has this number.
+    pub const COUNT: u32 = 4;
+
+    pub fn number(self) -> u32
+        ensures { result ≡ kind_number self }
+    {
+        match self {
+            Kind::Itself => 0,
+            Kind::Group => 1,
+            Kind::Owner => 2,
+            Kind::Everyone => 3,
+        }
+    }
+}
+
+impl TryFrom<u32> for Kind {
+    type Error = UnknownKind;
+
+    ghost try_from_gives = { KindRead };
+
+    fn try_from(number: u32) -> Result<Kind, UnknownKind> {
+        match number {
+            0 => Ok(Kind::Itself),
+            1 => Ok(Kind::Group),
+            2 => Ok(Kind::Owner),
+            3 => Ok(Kind::Everyone),
+            _ => Err(UnknownKind(number)),
+        }
+    }
+}
+
 impl ItemRow {
     pub const SIZE: usize = 16;
-    // The flag bits of an item.
+    /// The flag bits of an item. Flags are a set of bits, as C hands them over and as any bytes are read, so they are a number.
     pub const IS_LIST: u32 = 1;
 
     pub const LOCKED: u32 = 2;
 
     pub const FOLDER_APPLIES: u32 = 4;
-    // Flags are below this number: from it on, they have a bit without a meaning.
+    /// Flags are below this number: from it on, they have a bit without a meaning.
     pub const FLAGS: u32 = 8;
 
     pub fn new(owner: Subject, list: Item, flags: u32, folder: Item) -> ItemRow
@@ -326,13 +362,14 @@ impl ItemRow {
         }
     }
 
-    // The item's row with another list, and with another owner.
+    /// The item's row with another list.
     pub fn with_list(self, list: Item) -> ItemRow
         ensures { result ≡ with_list self list.0 }
     {
         ItemRow::new(self.owner, list, self.flags, self.folder)
     }
 
+    /// The item's row with another owner.
     pub fn with_owner(self, owner: Subject) -> ItemRow
         ensures { result ≡ with_owner self owner.0 }
     {
@@ -351,7 +388,7 @@ impl ItemRow {
         self.flags & ItemRow::LOCKED != 0
     }
 
-    // The folder that applies to the item, or 0.
+    /// The folder that applies to the item, or 0.
     pub fn applied_folder(self) -> Item
         ensures { result.0 ≡ folder_on self }
     {
@@ -361,7 +398,7 @@ impl ItemRow {
         Item(0)
     }
 
-    // Whether an item with this folder may have these flags. Without a folder none applies; that flag is the highest.
+    /// Whether an item with this folder may have these flags. Without a folder none applies; that flag is the highest.
     pub fn flags_fit(flags: u32, folder: Item) -> bool
         ensures { result ≡ flags_fit flags folder.0 }
     {
@@ -388,7 +425,7 @@ const MASKS: [Privileges; 32] = [
 // The position that each of the calls below needs, in their order.
 const NEEDED: [u32; 4] = [5, 4, 6, 6];
 
-// The calls that need a position by question 15.
+/// The calls that need a position by question 15. They are numbers, as `needed_position` answers every number.
 pub const DEFINE_SUBJECT: u32 = 0;
 
 pub const CREATE_ITEM: u32 = 1;
@@ -397,7 +434,7 @@ pub const SET_LINE: u32 = 2;
 
 pub const REMOVE_LINE: u32 = 3;
 
-// The set with one position alone; past the last position, the empty set.
+/// The set with one position alone; past the last position, the empty set.
 pub fn mask(position: u32) -> Privileges
     ensures { result ≡ mask_of position }
 {
@@ -408,7 +445,7 @@ pub fn mask(position: u32) -> Privileges
     MASKS[at]
 }
 
-// The position that a call needs. If the number is not one of these calls, it is 64, a position that no set has.
+/// The position that a call needs. If the number is not one of these calls, it is 64, a position that no set has.
 pub fn needed_position(call: u32) -> u32
     ensures { result ≡ needed_position call }
 {
@@ -419,28 +456,28 @@ pub fn needed_position(call: u32) -> u32
     NEEDED[at]
 }
 
-// The privileges in either set.
+/// The privileges in either set.
 pub fn union(a: Privileges, b: Privileges) -> Privileges
     ensures { result ≡ a ∪ b }
 {
     a | b
 }
 
-// The privileges in both sets.
+/// The privileges in both sets.
 pub fn intersection(a: Privileges, b: Privileges) -> Privileges
     ensures { result ≡ a ∩ b }
 {
     a & b
 }
 
-// Every privilege of a is in b.
+/// Every privilege of a is in b.
 pub fn is_within(a: Privileges, b: Privileges) -> bool
     ensures { result ≡ within a b }
 {
     a & b == a
 }
 
-// The set holds a position.
+/// The set holds a position.
 pub fn has(position: u32, set: Privileges) -> bool
     ensures { result ≡ has position set }
 {

@@ -1,38 +1,56 @@
-// The refusals of document 01, "Questions before each call", and of document 02, in the order in which they are asked.
-pub const BAD_LENGTH: u32 = 1;
+//! The refusals of the questions before each call, in the order in which the questions stand in docs/RULES.md.
 
-pub const BAD_LAYOUT: u32 = 2;
+ghost use Rattle.std.specs.Prelude.{◌≡◌};
+ghost use Rattle.model.specs.Questions.{refusal_number};
 
-pub const BAD_SUBJECT_ROW: u32 = 3;
+#[derive(Clone, Copy, Debug, PartialEq, Eq)]
+pub enum Refusal {
+    BadLength,
+    BadLayout,
+    BadSubjectRow,
+    BadItemRow,
+    BadLineRow,
+    BadGrantRow,
+    UnusedRowNotZero,
+    UnknownCaller,
+    UnknownSubject,
+    UnknownItem,
+    BadCountsLength,
+    NotAList,
+    OutOfRange,
+    NotPermitted,
+    OutsideTree,
+    NoSuchRow,
+    NotTheGrantor,
+    TableFull,
+    NoEditor,
+}
 
-pub const BAD_ITEM_ROW: u32 = 4;
-
-pub const BAD_LINE_ROW: u32 = 5;
-
-pub const BAD_GRANT_ROW: u32 = 6;
-
-pub const UNUSED_ROW_NOT_ZERO: u32 = 7;
-
-pub const UNKNOWN_CALLER: u32 = 10;
-
-pub const UNKNOWN_SUBJECT: u32 = 11;
-
-pub const UNKNOWN_ITEM: u32 = 12;
-
-pub const BAD_COUNTS_LENGTH: u32 = 21;
-
-pub const NOT_A_LIST: u32 = 13;
-
-pub const OUT_OF_RANGE: u32 = 14;
-
-pub const NOT_PERMITTED: u32 = 15;
-
-pub const OUTSIDE_TREE: u32 = 16;
-
-pub const NO_SUCH_ROW: u32 = 17;
-
-pub const NOT_THE_GRANTOR: u32 = 18;
-
-pub const TABLE_FULL: u32 = 19;
-
-pub const NO_EDITOR: u32 = 20;
+impl Refusal {
+    /// The number that a refused call answers.
+    pub fn number(self) -> u32
+        ensures { result ≡ refusal_number self }
+    {
+        match self {
+            Refusal::BadLength => 1,
+            Refusal::BadLayout => 2,
+            Refusal::BadSubjectRow => 3,
+            Refusal::BadItemRow => 4,
+            Refusal::BadLineRow => 5,
+            Refusal::BadGrantRow => 6,
+            Refusal::UnusedRowNotZero => 7,
+            Refusal::UnknownCaller => 10,
+            Refusal::UnknownSubject => 11,
+            Refusal::UnknownItem => 12,
+            Refusal::BadCountsLength => 21,
+            Refusal::NotAList => 13,
+            Refusal::OutOfRange => 14,
+            Refusal::NotPermitted => 15,
+            Refusal::OutsideTree => 16,
+            Refusal::NoSuchRow => 17,
+            Refusal::NotTheGrantor => 18,
+            Refusal::TableFull => 19,
+            Refusal::NoEditor => 20,
+        }
+    }
+}

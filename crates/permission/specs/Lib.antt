@@ -1,5 +1,3 @@
 -- Laws in the form in which the code decides. The definitions are those of `model`.
-pub mod Parts
-pub mod Grants
 pub mod Folders
 pub mod Sets

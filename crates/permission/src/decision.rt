@@ -1,98 +1,90 @@
-// How a permission is found: the sets of a subject, under a grant that it holds or might hold, and under the role that it
-// claims. No function checks the image: a caller that has checked it once may ask for any number of sets.
+//! The sets of a subject, under a grant that it holds or might hold, and under the role that it claims.
+
 ghost use Rattle.std.specs.Prelude.{◌≡◌};
 ghost use Rattle.model.specs.WhoAndWhat.{◌∩◌};
 ghost use Rattle.model.specs.Image.{privileges_in};
-ghost use Rattle.model.specs.Permission.{found_grant, grant_of, part_on, operation_under, permission_under};
+ghost use Rattle.model.specs.Permission.{grant_of, part_on, operation_under, permission_under};
 ghost use Rattle.model.specs.Permission.{operation_set, permission_set};
-ghost use Rattle.model.specs.Lent.{tables_at};
 
-use crate::folders::shared_objects;
 use crate::parts::lent_operations;
 use lines::lines_part;
-use model::{Item, ItemRow, Layout, Privileges, Role, SoughtGrant, Subject, intersection, union};
-use search::grants::{FoundGrant, search_grant};
-use tables::subjects::privileges_of;
+use model::{GrantRow, Item, ItemRow, Privileges, Role, Subject, intersection, union};
+use rows::key::GrantKey;
+use tables::Tables;
 
-// The grant of a claimed role. Role 0 means no role.
-pub fn grant_of(image: &[u8], layout: Layout, subject: Subject, role: Role) -> SoughtGrant
-    ensures { found_grant result ≡ grant_of (tables_at layout image.entry) subject.0 role.0 }
-{
-    if role.0 == 0 {
-        return SoughtGrant::NoGrant;
+/// Who asks: a subject, and the grant under which it asks, which it holds or might hold.
+#[derive(Clone, Copy)]
+pub struct Asker<'t, 'a> {
+    pub tables: &'t Tables<'a>,
+    pub subject: Subject,
+    pub grant: Option<GrantRow>,
+}
+
+impl<'t, 'a> Asker<'t, 'a> {
+    /// Under the role that the subject claims.
+    pub fn claiming(tables: &'t Tables<'a>, subject: Subject, role: Role) -> Asker<'t, 'a>
+        ensures tables { result.tables.now ≡ tables.now }
+        ensures subject { result.subject ≡ subject }
+        ensures grant { result.grant ≡ grant_of tables.now subject.0 role.0 }
+    {
+        Asker {
+            tables,
+            subject,
+            grant: grant_of(tables, subject, role),
+        }
     }
-    let found = search_grant(image, layout, subject, role);
-    match found {
-        FoundGrant::At(_, grant) => SoughtGrant::Grant(grant),
-        FoundGrant::Absent(_) => SoughtGrant::NoGrant,
+
+    #[tactic(auto, unfolding(model::specs::Permission::operation_under))]
+    pub fn operations(&self) -> Privileges
+        ensures { result ≡ operation_under self.now.tables.now self.now.subject.0 self.now.grant }
+    {
+        let own = self.tables.privileges_of(self.subject);
+        union(own, lent_operations(self.tables, self.grant))
+    }
+
+    /// The operation set cuts once what the object sets of the item and of the folders that apply share.
+    #[tactic(auto, using(laws::specs::Folders::permission_cut))]
+    pub fn permissions(&self, item: Item) -> Privileges
+        ensures { result ≡ permission_under self.now.tables.now self.now.subject.0 self.now.grant item.0 }
+    {
+        self.shared_objects(item, self.operations())
     }
 }
 
-pub fn operations_under(
-    image: &[u8],
-    layout: Layout,
-    subject: Subject,
-    grant: SoughtGrant,
-) -> Privileges
-    ensures { result ≡ operation_under (tables_at layout image.entry) subject.0 (found_grant grant) }
+/// The grant of a claimed role. Role 0 means no role.
+pub fn grant_of(tables: &Tables<'_>, subject: Subject, role: Role) -> Option<GrantRow>
+    ensures { result ≡ grant_of tables.now subject.0 role.0 }
 {
-    let own = privileges_of(image, layout, subject);
-    let lent = lent_operations(image, layout, grant);
-    union(own, lent)
+    if role == Role(0) {
+        return None;
+    }
+    tables.rows::<GrantRow>().find(GrantKey {
+        receiver: subject,
+        role,
+    })
 }
 
-// The operation set cuts once what the object sets of the item and of the folders that apply share.
-pub fn permissions_under(
-    image: &[u8],
-    layout: Layout,
-    subject: Subject,
-    grant: SoughtGrant,
-    item: Item,
-) -> Privileges
-    ensures { result ≡ permission_under (tables_at layout image.entry) subject.0 (found_grant grant) item.0 }
-{
-    let operations = operations_under(image, layout, subject, grant);
-    shared_objects(image, layout, subject, grant, item, operations)
-}
-
-// The own set of an item whose row is handed in, of a subject that claims no role. Whoever asks for the sets of many subjects on
-// one item reads its row once.
-pub fn own_set_on(image: &[u8], layout: Layout, subject: Subject, item: ItemRow) -> Privileges
-    ensures { let t = tables_at layout image.entry in
+/// The own set of an item whose row is handed in, of a subject that claims no role. Whoever asks for the sets of many subjects on
+/// one item reads its row once.
+pub fn own_set_on(tables: &Tables<'_>, subject: Subject, item: ItemRow) -> Privileges
+    ensures { let t = tables.now in
         result ≡ privileges_in t.subjects subject.0 ∩ part_on t subject.0 item }
 {
-    let own = privileges_of(image, layout, subject);
-    let part = lines_part(image, layout, subject, item);
+    let own = tables.privileges_of(subject);
+    let part = lines_part(tables, subject, item);
     intersection(own, part)
 }
 
-// The operation set.
-pub fn operations(image: &[u8], layout: Layout, subject: Subject, role: Role) -> Privileges
-    ensures { result ≡ operation_set (tables_at layout image.entry) subject.0 role.0 }
+/// The operation set.
+pub fn operations(tables: &Tables<'_>, subject: Subject, role: Role) -> Privileges
+    ensures { result ≡ operation_set tables.now subject.0 role.0 }
 {
-    operations_under(
-        image,
-        layout,
-        subject,
-        grant_of(image, layout, subject, role),
-    )
+    Asker::claiming(tables, subject, role).operations()
 }
 
-// The permission set.
-pub fn permissions(
-    image: &[u8],
-    layout: Layout,
-    subject: Subject,
-    role: Role,
-    item: Item,
-) -> Privileges
-    ensures { result ≡ permission_set (tables_at layout image.entry) subject.0 role.0 item.0 }
+/// The permission set.
+pub fn permissions(tables: &Tables<'_>, subject: Subject, role: Role, item: Item) -> Privileges
+    ensures { result ≡ permission_set tables.now subject.0 role.0 item.0 }
 {
-    permissions_under(
-        image,
-        layout,
-        subject,
-        grant_of(image, layout, subject, role),
-        item,
-    )
+    Asker::claiming(tables, subject, role).permissions(item)
 }

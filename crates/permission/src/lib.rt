@@ -1,5 +1,4 @@
-// How a permission is found: what the lines that apply to a subject and a grant give, the sets, and their explanation. No function
-// checks the image.
+//! How a permission is found: what lines and a grant give, the sets, and their explanation; for the tables of any image.
 #![tactic(auto)]
 
 pub mod decision;

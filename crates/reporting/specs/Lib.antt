@@ -1,7 +1,3 @@
--- The report: its definition, how the code divides it into pages, and the laws for the code that writes them.
+-- The report: its definition, and how the code divides it into pages.
 pub mod Report
 pub mod Pages
-pub mod Decimals
-pub mod Texts
-pub mod Filling
-pub mod Whole

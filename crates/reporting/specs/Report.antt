@@ -1,4 +1,4 @@
--- Document 01, the report program: what it prints for the bytes of an image, in ASCII.
+-- The report: the text for the bytes of an image, in ASCII.
 use Rattle.std.specs.Prelude.{cond, List, [], ◌∷◌, ◌++◌, ℕ, zero, suc, ◌+◌, ◌/◌, ◌%◌, eqb, length}
 use Rattle.model.specs.Image.{Tables, tables}
 use Rattle.model.specs.Permission.{permission_set}

@@ -17,7 +17,7 @@ use Rattle.laws.specs.Rows.{Lawful, row_in, row_past, whole_row, short_row}
 use Rattle.rows.specs.Reading.{row_of, rows_slice, used_slice, among_slice}
 use Rattle.rows.specs.RowLaws.{fields_front, fields_none}
 
-drop_take : (n m : ℕ) (s : List ℕ) → drop n (take (n + m) s) ≡ take m (drop n s)
+pub drop_take : (n m : ℕ) (s : List ℕ) → drop n (take (n + m) s) ≡ take m (drop n s)
 drop_take n m s = ⊎_elim inside past (le_or_lt n (length s))
   where
     inside : n ≤ length s → drop n (take (n + m) s) ≡ take m (drop n s)
@@ -31,7 +31,7 @@ drop_take n m s = ⊎_elim inside past (le_or_lt n (length s))
 
 module _ {A : Type 0} (f : Format A) (law : Lawful f) where
   -- the first row of s is the first row of its first m bytes, if these are a whole row or more
-  first_of_take : (m : ℕ) (s : List ℕ) → size f ≤ m → first_row f (take m s) ≡ first_row f s
+  pub first_of_take : (m : ℕ) (s : List ℕ) → size f ≤ m → first_row f (take m s) ≡ first_row f s
   first_of_take m s enough = ⊎_elim whole partial (le_or_lt (size f) (length s))
     where
       whole : size f ≤ length s → first_row f (take m s) ≡ first_row f s
@@ -92,13 +92,6 @@ module _ (n : ℕ) (t : Table) (s : List ℕ) where
   unfolding used_slice
   rows_all = rw add-sub_cancel_left
 
-  -- the size that the code computes is the format's
-  pub rows_sized : (m : ℕ) (r : List ℕ) → n ≡ m → r ≡ used_slice n t s → r ≡ used_slice m t s
-  rows_sized m r e is = is ∙ rw e
-
-pub divided : (m n k : ℕ) → n ≡ k → m / n ≡ m / k
-divided m n k e = rw e
-
 -- The slice of one row in such a slice s, as the code takes it. n is the size of a row.
 module _ (n k : ℕ) (s : List ℕ) where
   pub among_past : length s / n ≤ k → [] ≡ among_slice n k s
@@ -117,7 +110,7 @@ module _ (n k : ℕ) (s : List ℕ) where
 
 -- One row of such a slice s.
 module _ {A : Type 0} (f : Format A) (law : Lawful f) (s : List ℕ) (k : ℕ) where
-  past_end : length s / size f ≤ k → length (drop (k * size f) s) < size f
+  pub past_end : length s / size f ≤ k → length (drop (k * size f) s) < size f
   past_end h =
       let few : length s / size f < suc k = omega arith in
       let short : length s < suc k * size f = (div-lt_iff_lt-mul law.wide).0 few in
@@ -144,21 +137,3 @@ module _ {A : Type 0} (f : Format A) (law : Lawful f) (s : List ℕ) (k : ℕ) w
   pub among_read : (n : ℕ) → n ≡ size f → (b : List ℕ) → b ≡ among_slice n k s → (r : A) → r ≡ row_of f b
       → r ≡ first_row f (drop (k * size f) s)
   among_read n wide b is r e = e ∙ ap (row_of f) (is ∙ ap (λ (m : ℕ). among_slice m k s) wide) ∙ among_first
-
--- The slice has no more whole rows than are in use, and every row past its whole rows is the row of zeros.
-module _ {A : Type 0} (f : Format A) (law : Lawful f) (t : Table) (img rows : List ℕ)
-    (taken : rows ≡ rows_slice f t img) (m : ℕ) (count : m ≡ length rows / size f) where
-  pub whole_few : m ≤ t.used
-  unfolding used_slice
-  whole_few =
-      let short : length rows ≤ t.used * size f = rw (taken, length-take) (omega arith) in
-      let below : length rows < suc t.used * size f = omega (arith, suc-mul t.used (size f), law.wide) in
-      let few : length rows / size f < suc t.used = (div-lt_iff_lt-mul law.wide).1 below in
-      omega arith
-
-  pub zeros_past : (d : A) → d ≡ f.row (replicate (length f.widths) 0) → (k : ℕ) → m ≤ k → d ≡ get_or (rows_in f t img) k d
-  zeros_past d none k h =
-      none
-      ∙ sym (short_row f (drop (k * size f) rows) (past_end f law rows k (omega (arith, count))))
-      ∙ ap (λ (s : List ℕ). first_row f (drop (k * size f) s)) taken
-      ∙ among_row f law t img d none k

@@ -3,4 +3,6 @@
 pub mod Reading
 pub mod RowLaws
 pub mod Among
-pub mod PutLaws
+pub mod Found
+pub mod Keys
+pub mod Halving

@@ -1,6 +1,6 @@
 -- What the contracts of `rows` cite beside the definitions of `model`: a row from its fields, the slice of a row, the slice of
 -- a table's rows, and the slice of a row in that.
-use Rattle.std.specs.Prelude.{◌&&◌, cond, List, [], ℕ, ◌+◌, ◌*◌, ◌/◌, leb, ltb, length, take, drop}
+use Rattle.std.specs.Prelude.{◌&&◌, cond, List, [], ℕ, replicate, ◌+◌, ◌*◌, ◌/◌, leb, ltb, length, take, drop}
 use Rattle.model.specs.declared.Table.{Table}
 use Rattle.model.specs.Image.{Format, size, fields_at}
 
@@ -23,3 +23,7 @@ module _ {A : Type 0} (f : Format A) where
 
   abbrev pub rows_slice : Table → List ℕ → List ℕ
   rows_slice t s = used_slice (size f) t s
+
+  -- the row of zeros
+  abbrev pub zero_row : A
+  zero_row = f.row (replicate (length f.widths) 0)

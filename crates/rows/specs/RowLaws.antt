@@ -9,13 +9,12 @@ use native.Mathlib.Omega.{arith}
 use borrow.Author.Tests.{lt-ltb, le-ltb, le-leb, lt-leb}
 use Rattle.std.proofs.lemmas.List.{take-append-le, drop-append-le}
 use Rattle.model.specs.declared.Table.{Table}
-use Rattle.model.specs.declared.ItemRow.{ItemRow}
 use Rattle.model.specs.Lists.{total}
-use Rattle.model.specs.Image.{Format, size, first_row, rows_in, field_at, fields_at, no_item, item_in}
+use Rattle.model.specs.Image.{Format, size, first_row, rows_in, field_at, fields_at}
 use Rattle.laws.specs.Tests.{le_or_lt}
 use Rattle.laws.specs.Fields.{field_in, field_out, field_empty}
 use Rattle.laws.specs.Rows.{Lawful, row_in, row_past, whole_row, short_row}
-use Rattle.rows.specs.Reading.{row_of, row_slice}
+use Rattle.rows.specs.Reading.{row_of, row_slice, zero_row}
 
 -- Fields that p has are the same in p ++ r.
 
@@ -113,17 +112,6 @@ module _ {A : Type 0} (f : Format A) (law : Lawful f) (t : Table) (img : List �
                 (nothing ∙ row_missing (inr out))
           ]
 
-  -- as the code reads it: n is the size of a row, and b is the slice that was found for it
-  pub row_read : (n : ℕ) → n ≡ size f → (b : List ℕ) → b ≡ row_slice t n k img → (r : A) → r ≡ row_of f b → r ≡ get_or (rows_in f t img) k d
-  row_read n wide b found r e = e ∙ ap (row_of f) (found ∙ ap (λ (m : ℕ). row_slice t m k img) wide) ∙ sliced
-
--- Item n is the row with index n - 1, and 0 is no item.
-module _ (rows : List ItemRow) (r : ItemRow) where
-  pub item_none : (n : ℕ) → n ≡ 0 → r ≡ no_item → r ≡ item_in rows n
-  item_none n z e = rw z e
-
-  pub item_some : (n : ℕ) → (n ≡ 0 → ⊥) → r ≡ get_or rows (n - 1) no_item → r ≡ item_in rows n
-  item_some zero h e = absurd (h refl)
-  item_some (suc n) h e =
-      let same : suc n - 1 ≡ n = omega arith in
-      e ∙ ap (λ (k : ℕ). get_or rows k no_item) same
+pub row_sliced : {A : Type 0} (f : Format A) (law : Lawful f) (t : Table) (img : List ℕ) (k : ℕ)
+    → row_of f (row_slice t (size f) k img) ≡ get_or (rows_in f t img) k (zero_row f)
+row_sliced f law t img k = sliced f law t img (zero_row f) refl k

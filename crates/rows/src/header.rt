@@ -1,11 +1,12 @@
-// The layout that an image's header describes.
+//! The layout that an image's header describes.
 ghost use Rattle.std.specs.Prelude.{◌≡◌};
 ghost use Rattle.model.specs.Image.{layout_of};
 
 use fields::numbers::field;
 use model::{Layout, Table};
 
-// Each table ends where the next one starts, the last one at the total length.
+/// Each table ends where the next one starts, the last one at the total length.
+#[tactic(auto, unfolding(model::specs::Image::layout_of))]
 pub fn layout_of(image: &[u8]) -> Layout
     ensures { result ≡ layout_of image.now }
 {

@@ -1,7 +1,11 @@
-// Reads the layout of an image, and reads and writes rows in its bytes. Every public function is defined for every input:
-// what runs past the end reads as 0 and is not written.
+//! Reads the layout of an image, and reads and writes rows in its bytes; what runs past the end reads as 0 and is not written.
 #![tactic(auto)]
 
+pub mod grant;
 pub mod header;
-pub mod read;
-pub mod write;
+pub mod item;
+pub mod key;
+pub mod line;
+pub mod privileges;
+pub mod subject;
+pub mod table;

@@ -1,9 +1,6 @@
--- `Moves` and `Stores` define what storing, removing and replacing a row are as bytes, and what the questions of a call
--- decide. The other two files are laws in the form in which the code does this.
+-- `Moves` and `Stores` define what storing, removing and replacing a row are as bytes.
 pub mod Moves
-pub mod MoveLaws
 pub mod Stores
-pub mod StoreLaws
 -- What these edits do: to lists of bytes one after the other, to one table among blocks, to its rows, and to the tables
 -- of an accepted image. Last, the image that a call leaves.
 pub mod Middle

@@ -1,10 +1,7 @@
 -- A row stored in a table and a row removed from it, as bytes: the edit of the rows in use, and their count in the header.
-use Rattle.std.specs.Prelude.{ℕ, ◌+◌, ◌-◌, ◌*◌, cond, ◌&&◌, List, ◌++◌, length, take, drop, nat_le}
-use Rattle.model.specs.declared.Table.{Table}
+use Rattle.std.specs.Prelude.{ℕ, ◌+◌, ◌-◌, cond, ◌&&◌, List, ◌++◌, length, take, drop, nat_le}
 use Rattle.model.specs.Image.{bytes_of}
 use Rattle.fields.specs.Edits.{put_bytes, insert_bytes, remove_bytes}
-use Rattle.search.specs.declared.RowIndex.{RowIndex}
-use Rattle.search.specs.declared.RowIndex.TheVariants.{Existing, New}
 
 -- the first e bytes of s edited
 abbrev pub in_first : ℕ → (List ℕ → List ℕ) → List ℕ → List ℕ
@@ -23,9 +20,3 @@ row_added s counter used at end row =
 unfoldable pub row_taken : List ℕ → ℕ → ℕ → ℕ → ℕ → ℕ → List ℕ
 row_taken s counter used at end n =
     cond (nat_le end (length s) && nat_le 1 used) (put_bytes (in_first end (λ p. remove_bytes p at n) s) counter (bytes_of 4 (used - 1))) s
-
--- The bytes of a row stored at a row index of a table whose rows are as long: written over the existing row, or
--- inserted and counted.
-abbrev pub row_stored : ℕ → Table → RowIndex → List ℕ → List ℕ → List ℕ
-row_stored counter t (Existing n) row s = put_bytes s (t.start + n * length row) row
-row_stored counter t (New n) row s = row_added s counter t.used (t.start + n * length row) (t.start + t.used * length row) row

@@ -1,6 +1,5 @@
 -- An accepted image: a row inserted into one of its tables, removed or replaced gives the bytes of the tables after this change.
-use Rattle.std.specs.Prelude.{◌≡◌, ℕ, zero, suc, ◌+◌, ◌<◌, ◌≤◌, cond, ◌||◌, T, List, [], ◌∷◌, ◌++◌, length, take, drop, nat_lt}
-use Rattle.std.proofs.Math.Option.{Option, none, some}
+use Rattle.std.specs.Prelude.{◌≡◌, ℕ, zero, suc, ◌+◌, ◌<◌, ◌≤◌, cond, ◌||◌, T, List, [], ◌∷◌, ◌++◌, length, take, drop, nat_lt, None, Option, Some}
 use Rattle.std.proofs.Math.Path.{refl}
 use Rattle.std.proofs.Common.{sym, ap, ◌∙◌, le_of_eq, arith, ltb→lt}
 use Rattle.std.proofs.lemmas.List.{set_split}
@@ -21,8 +20,8 @@ use Rattle.laws.specs.Rows.{Lawful, rows_count, subject_lawful, grant_lawful, li
 use Rattle.laws.specs.Sorted.{index_le, found_index, put_new, put_over, cut_found}
 use Rattle.laws.specs.Back.{encode_back, tables_well_formed}
 use Rattle.laws.specs.There.{Sized, sizes, lay, layout_there}
-use Rattle.search.specs.declared.RowIndex.TheVariants.{Existing, New}
-use Rattle.search.specs.RowIndices.{row_index}
+use Rattle.tables.specs.declared.RowIndex.TheVariants.{Existing, New}
+use Rattle.tables.specs.RowIndices.{row_index}
 use Rattle.store.specs.Stores.{stored_at, subjects_counter, grants_counter, lines_counter, items_counter}
 use Rattle.store.specs.Stores.{with_row, without_row, over_row, over_item}
 use Rattle.store.specs.Splices.{start_of, counter_of, around}
@@ -179,10 +178,10 @@ module _ {A : Type 0} (f : Format A) (key : A → List ℕ) (d : A) (table : Tab
           → stored_at f counter table
           (cond (is_there o) (Existing (insertion_index key (key x) xs)) (New (insertion_index key (key x) xs))) x img
           ≡ bytes_for (put key x xs)
-      go none e u =
+      go None e u =
           stored.row_in (insertion_index key (key x) xs) x (index_le key (key x) xs up) (ltb→lt (length xs) cap u)
           ∙ ap bytes_for (sym (put_new key x xs up e))
-      go (some y) e u =
+      go (Some y) e u =
           stored.row_replaced (insertion_index key (key x) xs) d x (found_index key (key x) xs y up e)
           ∙ ap bytes_for (sym (put_over key x xs y up e))
 
@@ -192,6 +191,6 @@ module _ {A : Type 0} (f : Format A) (key : A → List ℕ) (d : A) (table : Tab
     where
       go : (o : Option A) → find_row key k xs ≡ o → T (is_there o)
           → without_row f counter table (insertion_index key k xs) img ≡ bytes_for (cut key k xs)
-      go none e u = absurd u
-      go (some y) e u =
+      go None e u = absurd u
+      go (Some y) e u =
           stored.row_out (insertion_index key k xs) d (found_index key k xs y up e) few ∙ ap bytes_for (sym (cut_found key k xs y up e))

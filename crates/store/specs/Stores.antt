@@ -1,15 +1,11 @@
 -- One row of a table added, removed or replaced, as bytes. A table's count stands at an offset in the header.
-use Rattle.std.specs.Prelude.{ℕ, zero, suc, ◌+◌, ◌*◌, cond, List, ◌==◌}
+use Rattle.std.specs.Prelude.{ℕ, zero, suc, ◌+◌, ◌*◌, List}
 use Rattle.model.specs.declared.Table.{Table}
 use Rattle.model.specs.declared.ItemRow.{ItemRow}
 use Rattle.model.specs.Image.{Format, size, row_in_bytes, item_format}
 use Rattle.fields.specs.Edits.{put_bytes}
-use Rattle.search.specs.declared.RowIndex.{RowIndex}
-use Rattle.search.specs.declared.RowIndex.TheVariants.{Existing, New}
-use Rattle.store.specs.declared.Storing.{Storing}
-use Rattle.store.specs.declared.Storing.TheVariants as store
-use Rattle.store.specs.declared.Removing.{Removing}
-use Rattle.store.specs.declared.Removing.TheVariants as remove
+use Rattle.tables.specs.declared.RowIndex.{RowIndex}
+use Rattle.tables.specs.declared.RowIndex.TheVariants.{Existing, New}
 use Rattle.store.specs.Moves.{row_added, row_taken}
 
 -- the offsets of the counts in the header: its fields 0, 2, 4 and 6
@@ -52,22 +48,3 @@ module _ {A : Type 0} (f : Format A) where
   abbrev pub stored_at : ℕ → Table → RowIndex → A → List ℕ → List ℕ
   stored_at counter t (Existing n) x s = over_row f t n x s
   stored_at counter t (New n) x s = with_row f counter t n x s
-
--- What the questions of a call decide. n is the number of the first question answered no. Where there is none, a row
--- that is set goes to its row index, and the row that is removed is the one at the index that the search found.
-
-abbrev pub storing : ℕ → RowIndex → Storing
-storing n index = cond (n == 0) (store.At index) (store.Refused n)
-
-abbrev pub removing : ℕ → ℕ → Removing
-removing n row = cond (n == 0) (remove.Row row) (remove.Refused n)
-
--- the number of each case
-
-abbrev pub storing_number : Storing → ℕ
-storing_number (store.At index) = 0
-storing_number (store.Refused n) = n
-
-abbrev pub removing_number : Removing → ℕ
-removing_number (remove.Row row) = 0
-removing_number (remove.Refused n) = n

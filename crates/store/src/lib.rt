@@ -1,138 +1,81 @@
-// Stores rows in the tables of an image and removes them, together with the count in the header. A new subject or item
-// becomes the last row of its table. A grant or a line goes to the row index that a search found. No function asks
-// whether there is a free row: the questions before a call do.
+//! Stores rows in the tables of an image and removes them, together with the count in the header. No function asks whether
+//! there is a free row: the questions before a call do.
 #![tactic(auto)]
 
 ghost use Rattle.std.specs.Prelude.{◌≡◌};
-ghost use Rattle.model.specs.Image.{width_of, subject_format, grant_format, line_format, item_format};
-ghost use Rattle.store.specs.Stores.{subjects_counter, grants_counter, lines_counter, items_counter};
+ghost use Rattle.model.specs.Image.{row_in_bytes};
+ghost use Rattle.fields.specs.Edits.{insert_bytes};
 ghost use Rattle.store.specs.Stores.{with_row, without_row, over_item, stored_at};
 
-use crate::moves::{store_row, take_row};
-use model::{GrantRow, Item, ItemRow, Layout, LineRow, SubjectRow};
-use rows::write::{put_grant, put_item, put_line, put_subject};
-use search::RowIndex;
-use sizes::{grant_size, item_size, line_size, subject_size};
+use fields::edits::{make_room, offset_count, remove_row};
+use fields::numbers::put_field;
+use model::{Item, ItemRow, Layout};
+use rows::table::{Row, offset_of};
+use tables::RowIndex;
 
-mod moves;
-
-// What the questions of a call that sets a row decide: the row index at which it is stored, or the refusal.
-#[derive(Clone, Copy)]
-pub enum Storing {
-    At(RowIndex),
-    Refused(u32),
-}
-
-// What the questions of a call that removes a row decide: the index of this row, or the refusal.
-#[derive(Clone, Copy)]
-pub enum Removing {
-    Row(u32),
-    Refused(u32),
-}
-
-pub fn add_subject(image: &mut [u8], layout: Layout, row: SubjectRow)
-    ensures { image.new
-        ≡ with_row (subject_format (width_of layout)) subjects_counter layout.subjects layout.subjects.used row image.old }
+/// Adds a row as the last one of its table.
+pub fn add_row<R: Row>(image: &mut [u8], layout: Layout, row: R)
+    ensures { image.new ≡ with_row R.format R.USED (R.table layout) (R.table layout).used row image.old }
 {
-    let table = layout.subjects;
-    let mut bytes = [0; SubjectRow::SIZE];
-    put_subject(&mut bytes, layout, 0, row);
-    store_row(
-        image,
-        Layout::SUBJECTS_USED,
-        table,
-        subject_size(layout),
-        RowIndex::New(table.used),
-        &bytes,
-    );
+    insert_row(image, layout, R::table(layout).used, row);
 }
 
-pub fn add_item(image: &mut [u8], layout: Layout, row: ItemRow)
-    ensures { image.new ≡ with_row item_format items_counter layout.items layout.items.used row image.old }
+/// Stores a row at the row index that a search found.
+pub fn store_row<R: Row>(image: &mut [u8], layout: Layout, index: RowIndex, row: R)
+    ensures { image.new ≡ stored_at R.format R.USED (R.table layout) index row image.old }
 {
-    let table = layout.items;
-    store_item(image, layout, RowIndex::New(table.used), row);
+    match index {
+        RowIndex::Existing(n) => row.write(image, offset_of::<R>(layout, n)),
+        RowIndex::New(n) => insert_row(image, layout, n, row),
+    }
 }
 
-// Replaces an item's row. 0 is no item.
+/// 0 is no item.
 pub fn replace_item(image: &mut [u8], layout: Layout, item: Item, row: ItemRow)
     ensures { image.new ≡ over_item layout.items item.0 row image.old }
 {
-    let number = item.0;
-    if number == 0 {
+    if item.0 == 0 {
         return;
     }
-    let n = number - 1;
-    store_item(image, layout, RowIndex::Existing(n), row);
+    store_row(image, layout, RowIndex::Existing(item.0 - 1), row);
 }
 
-fn store_item(image: &mut [u8], layout: Layout, index: RowIndex, row: ItemRow)
-    ensures { image.new ≡ stored_at item_format items_counter layout.items index row image.old }
+/// The rows in use behind the removed one move down, and the row that this frees at their end becomes zero.
+#[tactic(auto, using(crate::proofs::StoreLaws::none_there, crate::proofs::StoreLaws::taken))]
+pub fn take_row<R: Row>(image: &mut [u8], layout: Layout, n: u32)
+    ensures { image.new ≡ without_row R.format R.USED (R.table layout) n image.old }
 {
-    let mut bytes = [0; ItemRow::SIZE];
-    put_item(&mut bytes, layout, 0, row);
-    store_row(
-        image,
-        Layout::ITEMS_USED,
-        layout.items,
-        item_size(layout),
-        index,
-        &bytes,
-    );
+    let used = R::table(layout).used;
+    let end = offset_of::<R>(layout, used);
+    if image.len() < end {
+        return;
+    }
+    if used == 0 {
+        return;
+    }
+    remove_row(&mut image[..end], offset_of::<R>(layout, n), R::SIZE);
+    put_field(image, R::USED, used - 1);
 }
 
-pub fn store_grant(image: &mut [u8], layout: Layout, index: RowIndex, row: GrantRow)
-    ensures { image.new
-        ≡ stored_at (grant_format (width_of layout)) grants_counter layout.grants index row image.old }
+// The rows in use from the index on move up into the free row behind them, and no byte further on changes. The count wraps at
+// 2^32, because every table is answered. In a call it does not: question 19 has found a free row before.
+#[tactic(auto, using(crate::proofs::StoreLaws::added))]
+fn insert_row<R: Row>(image: &mut [u8], layout: Layout, n: u32, row: R)
+    ensures { image.new ≡ with_row R.format R.USED (R.table layout) n row image.old }
 {
-    let mut bytes = [0; GrantRow::SIZE];
-    put_grant(&mut bytes, layout, 0, row);
-    store_row(
-        image,
-        Layout::GRANTS_USED,
-        layout.grants,
-        grant_size(layout),
-        index,
-        &bytes,
-    );
+    let used = R::table(layout).used;
+    let end = offset_of::<R>(layout, used);
+    if offset_count(image, R::SIZE) <= end {
+        return;
+    }
+    insert_at(&mut image[..end + R::SIZE], offset_of::<R>(layout, n), row);
+    put_field(image, R::USED, used.wrapping_add(1));
 }
 
-pub fn take_grant(image: &mut [u8], layout: Layout, n: u32)
-    ensures { image.new ≡ without_row (grant_format (width_of layout)) grants_counter layout.grants n image.old }
+#[tactic(auto, using(laws::specs::Rows::row_long))]
+fn insert_at<R: Row>(bytes: &mut [u8], at: usize, row: R)
+    ensures { bytes.new ≡ insert_bytes bytes.old at (row_in_bytes R.format row) }
 {
-    take_row(
-        image,
-        Layout::GRANTS_USED,
-        layout.grants,
-        grant_size(layout),
-        n,
-    );
-}
-
-pub fn store_line(image: &mut [u8], layout: Layout, index: RowIndex, row: LineRow)
-    ensures { image.new
-        ≡ stored_at (line_format (width_of layout)) lines_counter layout.lines index row image.old }
-{
-    let mut bytes = [0; LineRow::SIZE];
-    put_line(&mut bytes, layout, 0, row);
-    store_row(
-        image,
-        Layout::LINES_USED,
-        layout.lines,
-        line_size(layout),
-        index,
-        &bytes,
-    );
-}
-
-pub fn take_line(image: &mut [u8], layout: Layout, n: u32)
-    ensures { image.new ≡ without_row (line_format (width_of layout)) lines_counter layout.lines n image.old }
-{
-    take_row(
-        image,
-        Layout::LINES_USED,
-        layout.lines,
-        line_size(layout),
-        n,
-    );
+    make_room(bytes, at, R::SIZE);
+    row.write(bytes, at);
 }

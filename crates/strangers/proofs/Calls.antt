@@ -1,9 +1,9 @@
 -- An outsider's call, for each of the eight calls. The questions that it passed make sure that it changes nothing that is
 -- watched and no grant of another grantor. t are the tables at the stop, u those that the call finds. Each call gives new
 -- rows to one table. For each table a law says what these rows must keep.
-use Rattle.std.specs.Prelude.{◌&&◌, ◌||◌, not, List, [], ◌∷◌, ◌++◌, ◌⊎◌, ◌≢◌, ◌≡◌, refl, T, eqb, length}
+use Rattle.std.specs.Prelude.{◌&&◌, ◌||◌, not, List, [], ◌∷◌, ◌++◌, ◌⊎◌, ◌≢◌, ◌≡◌, refl, T, eqb, length, Some}
+use Rattle.std.proofs.lemmas.Option.{none-some}
 use Rattle.std.proofs.Common.{inl, inr, sym, ap, ◌∙◌, arith, eqb→eq}
-use Rattle.std.proofs.Math.Option.{some, none-ne-some}
 use Prim.Native.Nat.{ℕ, zero, suc, ◌<◌, ◌≤◌}
 use Rattle.std.proofs.Math.ListN.{length-append}
 use Rattle.model.specs.declared.SubjectRow.{SubjectRow}
@@ -176,40 +176,40 @@ module _ (t : Tables) (document : ℕ) where
   -- A grant of another grantor: only its grantor can replace it, and only its grantor or the custodian can remove it.
   module _ (u : Tables) (now : WellFormed u) (g : GrantRow) where
     put_kept : (k : List ℕ) (x : GrantRow)
-        → find_row grant_key k u.grants ≡ some g
+        → find_row grant_key k u.grants ≡ Some g
         → T (not (is_there (find_row grant_key (grant_key x) u.grants)) || given_by x.grantor.0 (find_row grant_key (grant_key x) u.grants))
         → x.grantor.0 ≢ g.grantor.0
-        → find_row grant_key k (put grant_key x u.grants) ≡ some g
+        → find_row grant_key k (put grant_key x u.grants) ≡ Some g
     put_kept k x held asked another = go (same_or_not (grant_key x) k)
       where
-        go : (grant_key x ≡ k) ⊎ (grant_key x ≢ k) → find_row grant_key k (put grant_key x u.grants) ≡ some g
+        go : (grant_key x ≡ k) ⊎ (grant_key x ≢ k) → find_row grant_key k (put grant_key x u.grants) ≡ Some g
         go (inl e) = absurd (another (sym (eqb→eq g.grantor.0 x.grantor.0 (rw (e, held) at asked))))
         go (inr d) = find_put_other grant_key x u.grants k (grants_ascending u now.grants_hold_lem) d ∙ held
 
     cut_kept : (k l : List ℕ) (c : ℕ)
-        → find_row grant_key k u.grants ≡ some g
+        → find_row grant_key k u.grants ≡ Some g
         → T (given_by c (find_row grant_key l u.grants) || eqb c custodian)
         → c ≢ g.grantor.0
         → c ≢ custodian
-        → find_row grant_key k (cut grant_key l u.grants) ≡ some g
+        → find_row grant_key k (cut grant_key l u.grants) ≡ Some g
     cut_kept k l c held asked another no-custodian = go (same_or_not l k)
       where
         mine : T (eqb g.grantor.0 c) ⊎ T (eqb c custodian) → ⊥
         mine (inl e) = another (sym (eqb→eq g.grantor.0 c e))
         mine (inr e) = no-custodian (eqb→eq c custodian e)
 
-        go : (l ≡ k) ⊎ (l ≢ k) → find_row grant_key k (cut grant_key l u.grants) ≡ some g
+        go : (l ≡ k) ⊎ (l ≢ k) → find_row grant_key k (cut grant_key l u.grants) ≡ Some g
         go (inl e) = absurd (mine (or_cases (eqb g.grantor.0 c) (eqb c custodian) (rw (e, held) at asked)))
         go (inr d) = find_cut_other grant_key l u.grants k (grants_ascending u now.grants_hold_lem) d ∙ held
 
     pub grant_kept : (s r : ℕ) (c : Change)
-        → grant_of u s r ≡ some g
+        → grant_of u s r ≡ Some g
         → caller_of c ≢ g.grantor.0
         → Outsider t document (caller_of c)
         → Passed (questions u c)
-        → grant_of (after u c) s r ≡ some g
+        → grant_of (after u c) s r ≡ Some g
     unfolding questions after
-    grant_kept s zero c held another outsider q = absurd (none-ne-some g held)
+    grant_kept s zero c held another outsider q = absurd (none-some g held)
     grant_kept s (suc r) (define_subject c x p v) held another outsider q = held
     grant_kept s (suc r) (set_grant c x y d v) held another outsider q =
         put_kept (s ∷ suc r ∷ []) (grant_row x y c d v) held (search q) another

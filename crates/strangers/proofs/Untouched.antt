@@ -1,8 +1,7 @@
 -- What the calls of strangers keep, and that the permission set is read from nothing else. t are the tables at the stop, u
 -- those now.
-use Rattle.std.specs.Prelude.{Bool, true, false, cond, [], ◌∷◌, ◌⊎◌, ◌≡◌, refl, ℕ, zero, suc, ◌<◌, ◌≤◌, length}
+use Rattle.std.specs.Prelude.{Bool, true, false, cond, [], ◌∷◌, ◌⊎◌, ◌≡◌, refl, ℕ, zero, suc, ◌<◌, ◌≤◌, length, None, Option, Some}
 use Rattle.std.proofs.Common.{inl, inr, ◌∙◌, arith, ltb→lt, lt→ltb}
-use Rattle.std.proofs.Math.Option.{Option, none, some}
 use Rattle.std.proofs.Math.Path.{ap}
 use Rattle.std.proofs.Math.Dec.{T}
 use Rattle.model.specs.declared.GrantRow.{GrantRow}
@@ -123,8 +122,8 @@ module _ (t : Tables) (document : ℕ) where
       lent_none : (o : Option GrantRow) (r : ℕ) → IfSome (λ g. Given g × (grant_key g ≡ c ∷ r ∷ [])) o
           → ¬ T (has edit_list (lent_part u o a))
       unfolding has
-      lent_none none r p allowed = allowed
-      lent_none (some g) r p allowed = go (in_tree (parent_in u.subjects) g.domain.0 (owner_of u a)) allowed
+      lent_none None r p allowed = allowed
+      lent_none (Some g) r p allowed = go (in_tree (parent_in u.subjects) g.domain.0 (owner_of u a)) allowed
         where
           received : Outsider t document g.receiver.0
           received = let holder : g.receiver.0 ≡ c = cc p.1 in rw holder outsider
@@ -158,15 +157,15 @@ module _ (t : Tables) (document : ℕ) where
 
     -- such a grant adds the same to the operation set
     lent_operations_same : (o : Option GrantRow) → GrantorThere o → lent_operations u o ≡ lent_operations t o
-    lent_operations_same none p = refl
-    lent_operations_same (some g) p = ap (λ (x : ℕ). g.privileges ∩ x) (same.privileges_same g.grantor.0 (search ltb→lt))
+    lent_operations_same None p = refl
+    lent_operations_same (Some g) p = ap (λ (x : ℕ). g.privileges ∩ x) (same.privileges_same g.grantor.0 (search ltb→lt))
 
     -- A watched item's own set is the same for an asker that was present, under a grant whose grantor was. All that it is read
     -- from is the same.
     module _ (well : WellFormed t) (there : T (item_used t.items document)) where
       lent_part_same : (i : ℕ) → Watched t document i → (o : Option GrantRow) → GrantorThere o → lent_part u o i ≡ lent_part t o i
-      lent_part_same i w none p = refl
-      lent_part_same i w (some g) p =
+      lent_part_same i w None p = refl
+      lent_part_same i w (Some g) p =
           rw (
             part_same g.grantor.0 i p w,
             same.watched_same i w,
@@ -201,8 +200,8 @@ module _ (t : Tables) (document : ℕ) where
             document document the_document
 
         grantor_present_of : (o : Option GrantRow) (r : ℕ) → IfSome (λ g. Given g × (grant_key g ≡ asker ∷ r ∷ [])) o → GrantorThere o
-        grantor_present_of none r p = tt
-        grantor_present_of (some g) r p = p.0.grantor_present
+        grantor_present_of None r p = tt
+        grantor_present_of (Some g) r p = p.0.grantor_present
 
         pub permission_same : (role : ℕ)
             → grant_of u asker role ≡ grant_of t asker role

@@ -1,4 +1,4 @@
--- Insiders are found by the amended lines' part (document 02, P4). By equation 8 as printed they would be the same subjects: the
+-- Insiders are found by the amended lines' part. By the rule as printed they would be the same subjects: the
 -- two parts differ only for the owner of a list, who is an insider anyway.
 use Rattle.std.specs.Prelude.{◌⊎◌, ◌≡◌, ℕ, T}
 use Rattle.std.proofs.Common.{inl, inr, sym}

@@ -1,7 +1,6 @@
--- Document 01, "The sequences of demand 3": sequences of calls, followed lists, insiders, strangers, and the claim. With
--- document 02, P7, each folder that applies is followed like the document.
-use Rattle.std.specs.Prelude.{List, [], ◌∷◌, ◌≢◌, ◌≡◌, ℕ, T}
-use Rattle.std.proofs.Math.Option.{some}
+-- The rules, "Who is a stranger": sequences of calls, followed lists, insiders, strangers, and the claim. Each folder that
+-- applies is followed like the document.
+use Rattle.std.specs.Prelude.{List, [], ◌∷◌, ◌≢◌, ◌≡◌, ℕ, T, Some}
 use Rattle.model.specs.declared.GrantRow.{GrantRow}
 use Rattle.std.specs.List.{AllByRecursion}
 use Rattle.model.specs.WhoAndWhat.{custodian, edit_list, has}
@@ -81,7 +80,7 @@ module _ (t : Tables) (document : ℕ) where
 -- of that grant is not the caller of any call in `added`.
 pub data Claim (t : Tables) (asker : ℕ) (added : List Change) : ℕ → Type 0 where
   no_role : Claim t asker added 0
-  granted : {r : ℕ} (g : GrantRow) → grant_of t asker r ≡ some g
+  granted : {r : ℕ} (g : GrantRow) → grant_of t asker r ≡ Some g
       → AllByRecursion (λ c. caller_of c ≢ g.grantor.0) added
       → Claim t asker added r
 
@@ -99,7 +98,7 @@ pub record Unchanged (stop later : List ℕ) (asker role document : ℕ) : Type 
   pub answer_then : ask stop (permission_set_of asker role document) ≡ answer 0 (permission_set (tables stop) asker role document)
   pub answer_later : ask later (permission_set_of asker role document) ≡ answer 0 (permission_set (tables stop) asker role document)
 
--- Demand 3, one statement about both whole sequences. The first starts from any accepted image and ends at the stop, where
+-- The claim, one statement about both whole sequences. The first starts from any accepted image and ends at the stop, where
 -- the second starts. Their calls are handed any numbers of 32 bits. If the second sequence, the asker, its role and the
 -- document meet the conditions above, the set and the answer are unchanged when it ends.
 abbrev pub Demand3 : Type 0

@@ -1,3 +1,3 @@
-// Demand 3, about whole sequences of calls. There is no code here.
+//! The claim on strangers, about whole sequences of calls. There is no code here.
 
 #![tactic(auto)]

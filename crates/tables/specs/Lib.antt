@@ -2,3 +2,6 @@
 pub mod Rows
 pub mod Climbs
 pub mod Capacities
+pub mod AnswerLaws
+pub mod RowIndices
+pub mod Listing

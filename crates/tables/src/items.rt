@@ -1,49 +1,56 @@
-// Items by number.
+//! Items by number.
 ghost use Rattle.std.specs.Prelude.{◌≡◌};
-ghost use Rattle.model.specs.Image.{item_used, is_list, none_or_list, none_or_item};
-ghost use Rattle.model.specs.Lent.{tables_at};
+ghost use Rattle.model.specs.Image.{item_in, item_used, is_list, none_or_list, none_or_item};
 
-use model::{Item, Layout};
-use rows::read::item_at;
+use crate::Tables;
+use model::{Item, ItemRow};
+use rows::item::item_at;
 
-// Only the layout is read. The image is handed over so that the contract can name the table that is answered by.
-pub fn item_used(image: &[u8], layout: Layout, item: Item) -> bool
-    ensures { result ≡ item_used (tables_at layout image.entry).items item.0 }
-{
-    if item.0 == 0 {
-        return false;
+impl<'a> Tables<'a> {
+    /// Item n is the row with index n - 1, and 0 is no item.
+    pub fn item_at(&self, item: Item) -> ItemRow
+        ensures { result ≡ item_in self.now.items item.0 }
+    {
+        item_at(self.bytes, self.layout, item)
     }
-    let table = layout.items;
-    item.0 <= table.used
-}
 
-// The item is an access list.
-pub fn is_list(image: &[u8], layout: Layout, item: Item) -> bool
-    ensures { result ≡ is_list (tables_at layout image.entry).items item.0 }
-{
-    if !item_used(image, layout, item) {
-        return false;
+    pub fn item_used(&self, item: Item) -> bool
+        ensures { result ≡ item_used self.now.items item.0 }
+    {
+        if item.0 == 0 {
+            return false;
+        }
+        item.0 <= self.layout.items.used
     }
-    let row = item_at(image, layout, item);
-    row.is_list()
-}
 
-// The item is an access list, or 0 for none.
-pub fn none_or_list(image: &[u8], layout: Layout, item: Item) -> bool
-    ensures { result ≡ none_or_list (tables_at layout image.entry).items item.0 }
-{
-    if item.0 == 0 {
-        return true;
+    /// The item is an access list.
+    pub fn is_list(&self, item: Item) -> bool
+        ensures { result ≡ is_list self.now.items item.0 }
+    {
+        if !self.item_used(item) {
+            return false;
+        }
+        let row = self.item_at(item);
+        row.is_list()
     }
-    is_list(image, layout, item)
-}
 
-// The item is in use, or 0 for none.
-pub fn none_or_item(image: &[u8], layout: Layout, item: Item) -> bool
-    ensures { result ≡ none_or_item (tables_at layout image.entry).items item.0 }
-{
-    if item.0 == 0 {
-        return true;
+    /// The item is an access list, or 0 for none.
+    pub fn none_or_list(&self, item: Item) -> bool
+        ensures { result ≡ none_or_list self.now.items item.0 }
+    {
+        if item.0 == 0 {
+            return true;
+        }
+        self.is_list(item)
     }
-    item_used(image, layout, item)
+
+    /// The item is in use, or 0 for none.
+    pub fn none_or_item(&self, item: Item) -> bool
+        ensures { result ≡ none_or_item self.now.items item.0 }
+    {
+        if item.0 == 0 {
+            return true;
+        }
+        self.item_used(item)
+    }
 }

@@ -1,9 +1,11 @@
-use Rattle.laws.specs.Opens.{opened_no, opened_yes, opened_also}
-use Rattle.acceptance.specs.Seven.{answered_by, answered_all}
+use Rattle.std.proofs.lemmas.Result.{err_from_is_err_and}
+use Rattle.acceptance.specs.Seven.{open_no, check_no}
 use Rattle.acceptance.proofs.open.Goals as goal
 
-pub returns-then-number-ne0 : goal.returns-then-number-ne0
-returns-then-number-ne0 c = let both = opened_also _ _ (search (opened_no, answered_by)) in record { value = both.0; refusal = both.1 }
-
-pub returns : goal.returns
-returns c = let both = opened_also _ _ (search (opened_yes, answered_all)) in record { value = both.0; refusal = both.1 }
+pub returns-in_err-first_no : goal.returns-in_err-first_no
+returns-in_err-first_no c =
+    let p = err_from_is_err_and c.from_residual.result c.from_residual.ensures.1 in
+    rw (p.1, p.2) (record {
+      value = open_no _ _ c.layout_of-layout.ensures _ c.first_no.ensures _ c.in_err-first_no.was;
+      refusal = check_no _ _ c.layout_of-layout.ensures _ c.first_no.ensures _ c.in_err-first_no.was;
+    })

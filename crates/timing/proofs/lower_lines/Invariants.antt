@@ -1,13 +1,12 @@
-use mathlib.Core.List.{[], ◌∷◌}
-use Prim.Native.Nat.{◌-◌}
-use Rattle.model.specs.Image.{width_of, line_format, line_key, no_line}
-use Rattle.timing.specs.Counting.{Counted}
+use Rattle.std.proofs.Common.{◌≡◌, ◌+◌, ◌≤◌, drop}
+use Rattle.model.specs.Image.{line_key}
+use Rattle.rows.specs.Found.{line_numbers}
+use Rattle.model.specs.Sorted.{count_lower}
 use Rattle.timing.proofs.lower_lines.Given as goal
 
--- `timing::lower_lines` meets its contract: the rows that the loop has passed are counted.
+-- `lower` of the rows that the loop has passed have a lower key, and the others are still to be counted.
 abbrev pub invariant-loop-n : goal.invariant-loop-n
-invariant-loop-n l =
-    Counted (line_format (width_of l.layout)) line_key l.layout.lines l.image (l.list.0 ∷ l.kind ∷ l.subject.0 ∷ []) no_line l.n l.lower
-
-abbrev pub decreases-loop-n : goal.decreases-loop-n
-decreases-loop-n l = l.used - l.n
+invariant-loop-n l = record {
+  few : l.lower ≤ l.n;
+  rest : count_lower line_key (line_numbers l.key) l.lines ≡ l.lower + count_lower line_key (line_numbers l.key) (drop l.n l.lines);
+}

@@ -1,27 +1,32 @@
-use borrow.Author.Rules.{rules}
-use Rattle.model.specs.Image.{tables_by, subjects_hold}
-use Rattle.acceptance.specs.Rules.{rules_are, subject_broken, whole_used, whole_narrow, subjects_passed, subjects_none}
-use Rattle.acceptance.specs.Passes.{upto_none, upto_next}
+use Rattle.std.proofs.Common.{refl, arith, lt-ltb}
+use Rattle.model.specs.WhoAndWhat.{privilege_width}
+use Rattle.model.specs.Image.{subjects_hold}
+use Rattle.acceptance.specs.Passes.{upto_none, whole_broken, whole_next, upto_inside, none_inside}
+use Rattle.acceptance.specs.Rules.{zeros_hold}
 use Rattle.acceptance.proofs.row_rules.subjects_hold.Goals as goal
 
 pub loop-n-init : goal.loop-n-init
 loop-n-init c = search upto_none
 
 pub returns-then-not-subject_fits : goal.returns-then-not-subject_fits
-unfolding subjects_hold tables_by
-returns-then-not-subject_fits c = search (subject_broken, whole_used)
+unfolding subjects_hold
+returns-then-not-subject_fits c = rw (← c.at-tables.ensures, ← c.rows-rows.ensures) (search whole_broken)
 
 pub overflow_add-n : goal.overflow_add-n
-overflow_add-n c = record { fits = search (whole_narrow, rules) }
+overflow_add-n c = record { fits = omega (arith, c.whole-whole.ensures.few, c.len-used.ensures, c.len-used.type_inv, c.loop-n-test.true) }
 
 pub loop-n-preserved : goal.loop-n-preserved
-unfolding tables_by
-loop-n-preserved c = search (upto_next, rules_are, whole_used)
+loop-n-preserved c = search whole_next
 
 pub returns-then-n-gt0 : goal.returns-then-n-gt0
-unfolding subjects_hold tables_by
-returns-then-n-gt0 c = search subjects_passed
+unfolding subjects_hold
+returns-then-n-gt0 c =
+    rw (← c.at-tables.ensures, ← c.rows-rows.ensures, lt-ltb 0 c.loop-n.n c.if-n-gt0.true)
+    (upto_inside _ _ _ _ c.whole-whole.ensures.few c.whole-whole.ensures.zeros _ c.loop-n-test.false c.loop-n.invariant
+    (zeros_hold privilege_width _ _ (omega arith)))
 
-pub returns : goal.returns
-unfolding subjects_hold tables_by
-returns c = search subjects_none
+pub returns-else-n-gt0 : goal.returns-else-n-gt0
+unfolding subjects_hold
+returns-else-n-gt0 c =
+    rw (← c.at-tables.ensures, ← c.rows-rows.ensures)
+    (none_inside _ _ _ _ c.whole-whole.ensures.few c.whole-whole.ensures.zeros _ c.loop-n-test.false c.if-n-gt0.false refl _ c.len-used.ensures _ refl)

@@ -1,11 +1,8 @@
-use Rattle.asking.specs.Shown.{shown_image, shown_no_list, shown_rows}
+use Rattle.asking.specs.Shown.{shown_rows}
 use Rattle.asking.proofs.list_rows.shown_rows.Goals as goal
 
-pub returns-in-Refused : goal.returns-in-Refused
-returns-in-Refused c = search shown_image
-
-pub returns-then-not-is_list : goal.returns-then-not-is_list
-returns-then-not-is_list c = search shown_no_list
-
 pub returns : goal.returns
-returns c = search shown_rows
+returns c =
+    let lowest = rw c.new-lowest.ensures at c.insertion_index-first.ensures in
+    shown_rows _ _ c.open.ensures.value _ _ c.in_ok-layout.was _ c.at-tables.ensures _ c.is_list.ensures _ _ c.if-not-is_list.false
+    lowest c.insertion_index-end.ensures

@@ -1,11 +1,10 @@
-use Prim.Native.Nat.{◌-◌}
-use lib.ListN.{length}
-use Rattle.holding.specs.Counting.{Added}
+use Rattle.std.proofs.Common.{◌≡◌, ◌++◌, take, drop}
+use Rattle.holding.specs.Found.{counted}
 use Rattle.holding.proofs.counts.count_set.Given as goal
 
--- `holding::counts::count_set` meets its contract: each turn adds the lowest digit of what is left of the set to one more count.
-abbrev pub invariant-loop-position : goal.invariant-loop-position
-invariant-loop-position l = Added l.set l.initial.counts l.position l.rest l.counts
-
-abbrev pub decreases-loop-position : goal.decreases-loop-position
-decreases-loop-position l = length l.counts - l.position
+-- `holding::counts::count_set` meets its contract: the counts up to here, with what is left of the set added to the others, are the
+-- counts that are wanted, and the others are as they were.
+abbrev pub invariant-loop-count : goal.invariant-loop-count
+invariant-loop-count l =
+    (take l.count-index l.counts ++ counted l.rest (drop l.count-index l.fn.counts) ≡ counted l.set l.fn.counts)
+    × (drop l.count-index l.counts ≡ drop l.count-index l.fn.counts)

@@ -1,5 +1,4 @@
-use native.Mathlib.Omega.{arith}
-use borrow.Author.Rules.{rules}
+use Rattle.std.proofs.Common.{rules, arith}
 use Rattle.lines.specs.NearestGroups.{row_below, behind_row}
 use Rattle.lines.proofs.groups.bound_behind.Goals as goal
 
@@ -10,4 +9,4 @@ overflow_add-result c =
     record { fits = omega (arith, below) }
 
 pub returns : goal.returns
-returns c = search behind_row
+returns c = search (behind_row, rules)

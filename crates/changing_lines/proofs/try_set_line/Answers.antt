@@ -1,0 +1,25 @@
+use Rattle.changing_lines.specs.Lines.{line_stored}
+use Rattle.laws.specs.Acts.{act_handed, act_image, act_asked}
+use Rattle.changing_lines.proofs.try_set_line.Goals as goal
+
+pub returns-in_err-layout : goal.returns-in_err-layout
+returns-in_err-layout c =
+    let was = c.in_err-layout.was in
+    let both = act_handed _ _ _ _ was _ c.from_residual.ensures.1 (act_image _ _ c.open.ensures.value _ _ was) in
+    record { value = both.0; image_after = both.1 }
+
+pub returns-in_err-index : goal.returns-in_err-index
+returns-in_err-index c =
+    let opened = c.in_ok-layout.was in
+    let was = c.in_err-index.was in
+    let said = rw c.at-tables.ensures at c.ask_set_line.ensures.number in
+    let both = act_handed _ _ _ _ was _ c.from_residual-in_err-index.ensures.1 (act_asked _ _ c.open.ensures.value _ _ opened _ said _ was) in
+    record { value = both.0; image_after = both.1 }
+
+pub returns : goal.returns
+returns c =
+    let opened = c.in_ok-layout.was in
+    let was = c.in_ok-index.was in
+    let so = rw c.at-tables.ensures at c.ask_set_line.ensures.value in
+    let both = line_stored _ _ c.open.ensures.value _ opened _ _ _ _ _ _ _ _ _ _ so was c.new.ensures c.store_row.ensures c.slice_known-1.given in
+    record { value = both.0; image_after = both.1 }

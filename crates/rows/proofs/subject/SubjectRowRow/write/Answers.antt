@@ -1,0 +1,11 @@
+use Rattle.model.specs.WhoAndWhat.{privilege_width}
+use Rattle.model.specs.Image.{subject_format}
+use Rattle.laws.specs.Rows.{subject_lawful}
+use Rattle.rows.proofs.PutLaws.{row_put}
+use Rattle.rows.proofs.PutLaws.Put.{none, first, then}
+use Rattle.rows.proofs.subject.SubjectRowRow.write.Goals as goal
+
+pub returns : goal.returns
+returns c =
+    row_put (subject_format privilege_width) (subject_lawful privilege_width) c.args.self _ _ _ c.offset_count.ensures c.if-offset_count-at.false _
+    (first c.put_field.ensures (then c.put_field-2.ensures (then c.put_field-3.ensures none)))

@@ -1,7 +1,0 @@
-use Rattle.model.specs.Image.{tables_by}
-use Rattle.tables.specs.Rows.{item_is_used}
-use Rattle.tables.proofs.items.item_used.Goals as goal
-
-pub returns : goal.returns
-unfolding tables_by
-returns c = search item_is_used
