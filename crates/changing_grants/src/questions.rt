@@ -3,7 +3,7 @@
 
 #![tactic(auto, unfolding(model::specs::Questions::questions), using(laws::specs::Opens::unless_no, laws::specs::Opens::unless_yes, laws::specs::Answers::asked_no, laws::specs::Answers::asked_yes, laws::specs::Answers::asked_all, laws::specs::Answers::tested_no, laws::specs::Answers::tested_yes, tables::specs::AnswerLaws::at_index, tables::specs::AnswerLaws::key_is_there, tables::specs::AnswerLaws::key_missing, tables::specs::AnswerLaws::index_found, tables::specs::AnswerLaws::row_index_found, crate::specs::Questions::no_role, crate::specs::Questions::a_role, crate::specs::Questions::set_found, crate::specs::Questions::remove_found,))]
 
-ghost use Rattle.std.specs.Prelude.{not, ◌||◌, [], ◌∷◌, ◌≡◌, eqb, take, Some};
+ghost use Rattle.std.specs.Prelude.{not, ◌||◌, [], ◌∷◌, ◌≡◌, eqb, Some};
 ghost use Rattle.model.specs.Lists.{is_there};
 ghost use Rattle.model.specs.Sorted.{insertion_index};
 ghost use Rattle.model.specs.WhoAndWhat.{custodian};

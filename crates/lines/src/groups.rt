@@ -24,7 +24,7 @@ pub fn group_rule(tables: &Tables<'_>, subject: Subject, list: Item) -> Rule
 }
 
 // The same from a group on: its own line, or the lowest one above it. The search goes up by recursion on the group's number,
-// which falls: recursion is the form that the rules name for this search. It passes over the groups that are known
+// which falls: recursion is the form that was asked for here (docs/DECISIONS.md). It passes over the groups that are known
 // to have no line, so there is at most one level more than the list has group lines.
 fn rule_from(tables: &Tables<'_>, group: Subject, list: Item) -> Rule
     requires { list.0 ≢ 0 }

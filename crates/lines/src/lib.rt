@@ -13,7 +13,7 @@ use tables::Tables;
 mod groups;
 
 /// The rule that decides for a subject on an item, with its line, and what the line for everyone adds.
-#[derive(Clone, Copy)]
+#[derive(Clone, Copy, Debug, PartialEq, Eq)]
 pub struct AppliedLines {
     pub rule: Rule,
     pub everyone: Privileges,

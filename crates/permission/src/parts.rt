@@ -18,7 +18,7 @@ pub fn lent_operations(tables: &Tables<'_>, grant: Option<GrantRow>) -> Privileg
 }
 
 /// What a grant adds to the object set of an item, and the steps from the item's owner up to the grant's domain.
-#[derive(Clone, Copy)]
+#[derive(Clone, Copy, Debug, PartialEq, Eq)]
 pub struct LentPart {
     pub steps: Option<u32>,
     pub privileges: Privileges,
