@@ -40,6 +40,20 @@ fn the_readme_from_c_with_the_installed_library() {
     assert_readme_runs("readme_installed", &installed(&prefix));
 }
 
+/// The archive needs no name from outside: it links where there is no other library.
+#[test]
+fn the_archive_by_itself() {
+    let ended = Command::new("cc")
+        .args(["-shared", "-nostdlib", "-Wl,-z,defs", "-Wl,--whole-archive"])
+        .arg(env!("DACM_ARCHIVE"))
+        .arg("-o")
+        .arg(Path::new(env!("CARGO_TARGET_TMPDIR")).join("alone.so"))
+        .output()
+        .expect("there is a C compiler called cc");
+    let said = String::from_utf8_lossy(&ended.stderr);
+    assert!(ended.status.success(), "the archive needs more:\n{said}");
+}
+
 fn assert_readme_runs(name: &str, library: &[String]) {
     let readme = std::fs::read_to_string(here().join("../README.md")).expect("there is a README");
     let source = Path::new(env!("CARGO_TARGET_TMPDIR")).join(format!("{name}.c"));

@@ -17,7 +17,7 @@ use Rattle.store.specs.Stored.{subjects_stored}
 use Rattle.store.specs.Calls.{row_more}
 
 module _ (img : List ℕ) (o : Result Layout Refusal) (is : by_number o ≡ opened img) (lay : Layout) (case : o ≡ Ok lay) (c r p v : ℕ) where
-  result_subject : lay.subjects.used ≡ change_result (tables_by lay img) (define_subject c r p v)
+  pub result_subject : lay.subjects.used ≡ change_result (tables_by lay img) (define_subject c r p v)
   unfolding change_result tables_by
   result_subject = sym (rows_count (subject_format (width_of lay)) lay.subjects img)
 

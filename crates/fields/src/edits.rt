@@ -14,15 +14,19 @@ pub fn replace_row(bytes: &mut [u8], at: usize, row: &[u8])
 }
 
 /// Moves the bytes from offset `at` on up by `size`, so that a row of that size that is then written there is inserted. The last
-/// bytes, as many as the row has, are lost: callers make sure that they are free.
-#[tactic(auto, using(crate::proofs::EditLaws::no_room, crate::proofs::EditLaws::inserted))]
+/// bytes, as many as the row has, are lost: callers make sure that they are free. The last byte moves first, so that none is
+/// overwritten before it has moved. It is a loop, as the compiler makes a call of C's `memmove` of a `copy_within` upward: the
+/// static library then needs that name from whoever links it.
+#[tactic(auto, using(crate::proofs::Raised::raised_pasted, crate::proofs::EditLaws::no_room, crate::proofs::EditLaws::inserted))]
 pub fn make_room(bytes: &mut [u8], at: usize, size: usize)
     ensures { (row : List ℕ) → length row ≡ size → put_bytes bytes.new at row ≡ insert_bytes bytes.old at row }
 {
     if offset_count(bytes, size) <= at {
         return;
     }
-    bytes.copy_within(at..bytes.len() - size, at + size);
+    for from in (at..bytes.len() - size).rev() {
+        bytes[from + size] = bytes[from];
+    }
 }
 
 /// The bytes that this frees at the end become zero, as the bytes of unused rows have to be.

@@ -15,7 +15,7 @@ use Rattle.model.specs.Questions.{Question, image_questions, questions, first_no
 use Rattle.model.specs.Questions.{refusal_number, by_number, refused_by, answer_of}
 use Rattle.laws.specs.WellFormed.{WellFormed, fitting, Passed}
 use Rattle.laws.specs.Answers.{numbered, call_checked, call_passed}
-use Rattle.laws.specs.Opens.{handed_on, refusal_not, tables_err, tables_ok}
+use Rattle.laws.specs.Opens.{handed_on, refusal_some, refusal_not, tables_err, tables_ok}
 use Rattle.laws.specs.Asks.{result_image, result_no, result_done, number_said}
 use Rattle.laws.specs.Kept.{well_formed_after}
 use Rattle.laws.specs.Back.{tables_well_formed}
@@ -128,7 +128,8 @@ module _ (img : List ℕ) (o : Result Layout Refusal) (is : by_number o ≡ open
     pub act_no : (e : Refusal) → refusal_number e ≡ first_no (questions (tables_by lay img) c)
         → Settled img c (answer (refusal_number e) 0) img
     unfolding act
-    act_no e h = act_kept e (result_no img (Ok t) there own (λ t. change_result t c) t refl e h)
+    act_no e h =
+        act_kept e (result_no img (Ok t) there own (λ t. change_result t c) t refl (refusal_number e) (refusal_some e) h)
 
     -- the same by what the call's questions answered
     pub act_asked : {A : Type 0} (asked : Result A Refusal) → refused_by asked ≡ first_no (questions (tables_by lay img) c)

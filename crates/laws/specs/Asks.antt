@@ -51,8 +51,8 @@ module _ (img : List ℕ) (r : Result Tables Refusal) (is : by_number r ≡ open
           ap (λ (k : ℕ). say k (v (tables img))) (sym (number_own t case))
           ∙ ap (λ (u : Tables). say (first_no (qs t)) (v u)) (sym (tables_with img r is t case))
 
-      pub answers_no : (e : Refusal) → refusal_number e ≡ first_no (qs t) → refused (refusal_number e) ≡ answers
-      answers_no e h = says-refused (refusal_number e) (v t) (refusal_some e) ∙ sym (answers_own ∙ rw (← h))
+      pub answers_no : (k : ℕ) → eqb k 0 ≡ false → k ≡ first_no (qs t) → refused k ≡ answers
+      answers_no k some h = says-refused k (v t) some ∙ sym (answers_own ∙ rw (← h))
 
       pub answers_done : (x : A) → 0 ≡ first_no (qs t) → x ≡ v t → say 0 x ≡ answers
       answers_done x h f = sym (answers_own ∙ rw (← h, ← f))
@@ -70,7 +70,7 @@ module _ (img : List ℕ) (r : Result Tables Refusal) (is : by_number r ≡ open
   result_image = answers_image img r is qs answered (λ n. answer n 0) answered_refused v
 
   module _ (t : Tables) (case : r ≡ Ok t) where
-    pub result_no : (e : Refusal) → refusal_number e ≡ first_no (qs t) → answer (refusal_number e) 0 ≡ result
+    pub result_no : (k : ℕ) → eqb k 0 ≡ false → k ≡ first_no (qs t) → answer k 0 ≡ result
     result_no = answers_no img r is qs answered (λ n. answer n 0) answered_refused v t case
 
     pub result_done : (x : ℕ) → 0 ≡ first_no (qs t) → x ≡ v t → answer 0 x ≡ result
@@ -84,7 +84,7 @@ module _ (img : List ℕ) (r : Result Tables Refusal) (is : by_number r ≡ open
   module _ (t : Tables) (case : r ≡ Ok t) where
     pub ask_no : (e : Refusal) → refusal_number e ≡ first_no (ask_questions t q) → answer (refusal_number e) 0 ≡ ask img q
     unfolding ask
-    ask_no = result_no img r is (λ t. ask_questions t q) (λ t. ask_result t q) t case
+    ask_no e = result_no img r is (λ t. ask_questions t q) (λ t. ask_result t q) t case (refusal_number e) (refusal_some e)
 
     pub ask_done : (v : ℕ) → 0 ≡ first_no (ask_questions t q) → v ≡ ask_result t q → answer 0 v ≡ ask img q
     unfolding ask
@@ -119,9 +119,9 @@ module _ (img : List ℕ) (o : Result Tables Refusal) (is : by_number o ≡ open
     pub explain_no : (e : Refusal) → refusal_number e ≡ first_no (explain_questions t s i)
         → refused_explanation (refusal_number e) ≡ explain img s r i
     unfolding explain
-    explain_no =
+    explain_no e =
         answers_no img o is (λ t. explain_questions t s i) explained refused_explanation explained_refused
-        (λ t. explanation t s r i) t case
+        (λ t. explanation t s r i) t case (refusal_number e) (refusal_some e)
 
     pub explain_done : (x : Explanation) → 0 ≡ first_no (explain_questions t s i) → x ≡ explanation t s r i → x ≡ explain img s r i
     unfolding explain
@@ -158,7 +158,7 @@ module _ (img : List ℕ) (r : Result Tables Refusal) (is : by_number r ≡ open
     pub count_no : (e : Refusal) → refusal_number e ≡ first_no (asked t)
         → (answer (refusal_number e) 0 ≡ (count_holders img i old).answer) × (old ≡ (count_holders img i old).counts)
     unfolding count_holders
-    count_no e h = count_kept e (result_no img r is asked (λ t. 0) t case e h)
+    count_no e h = count_kept e (result_no img r is asked (λ t. 0) t case (refusal_number e) (refusal_some e) h)
 
     pub count_done : (new : List ℕ) → 0 ≡ first_no (asked t) → new ≡ holder_counts t i (length old)
         → (answer 0 0 ≡ (count_holders img i old).answer) × (new ≡ (count_holders img i old).counts)

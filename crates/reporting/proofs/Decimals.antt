@@ -36,10 +36,10 @@ within_same (suc m) (suc k) n p q =
     ∙ sym (within_one k n h))
     (eq-zero-or-pos n)
 
-no_digits : digits_of 0 ≡ []
+pub no_digits : digits_of 0 ≡ []
 no_digits = within_none 0 0 refl
 
-digits_step : (n : ℕ) → 0 < n → digits_of n ≡ digits_of (n / 10) ++ digit (n % 10) ∷ []
+pub digits_step : (n : ℕ) → 0 < n → digits_of n ≡ digits_of (n / 10) ++ digit (n % 10) ∷ []
 digits_step zero h = absurd (omega arith)
 digits_step (suc n) h =
     within_one n (suc n) h

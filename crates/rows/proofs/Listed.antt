@@ -5,7 +5,7 @@ use Rattle.std.proofs.Math.Seq.{take_all}
 use Rattle.model.specs.declared.Table.{Table}
 use Rattle.model.specs.Image.{Format, size, first_row, rows_from, rows_in}
 use Rattle.laws.specs.Rows.{Lawful, rows_from_count, short_row}
-use Rattle.rows.specs.Reading.{used_slice, zero_row}
+use Rattle.rows.specs.Reading.{rows_slice, used_slice, zero_row}
 use Rattle.rows.specs.Among.{drop_take, first_of_take, among_row, past_end}
 
 module _ {A : Type 0} (f : Format A) (law : Lawful f) where
@@ -20,9 +20,9 @@ module _ {A : Type 0} (f : Format A) (law : Lawful f) where
       rw (first_of_take f law m s fits, rest)
       (ap (λ (xs : List A). first_row f s ∷ xs) (rows_of_take n (m - size f) (drop (size f) s) (omega (arith, few, suc-mul n (size f)))))
 
-  pub cut_rows : (n : ℕ) (t : Table) (img : List ℕ) → n ≡ size f → rows_from f t.used (used_slice n t img) ≡ rows_in f t img
+  pub cut_rows : (t u : Table) (img r : List ℕ) → u ≡ t → r ≡ rows_slice f t img → rows_from f u.used r ≡ rows_in f t img
   unfolding used_slice rows_in
-  cut_rows n t img e = rw e (rows_of_take t.used (t.used * size f) (drop t.start img) (omega arith))
+  cut_rows t u img r same e = rw (same, e) (rows_of_take t.used (t.used * size f) (drop t.start img) (omega arith))
 
   pub row_listed : (u : ℕ) (s : List ℕ) (k : ℕ) → length s ≤ u * size f
       → first_row f (drop (k * size f) s) ≡ get_or (rows_from f u s) k (zero_row f)

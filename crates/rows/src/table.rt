@@ -1,12 +1,12 @@
 //! A row of any table, and the rows of a table as a list. Both are defined for any bytes: a field that is not there is 0,
 //! and a row that the bytes do not have, or not whole, is the row of zeros.
-ghost use Rattle.std.specs.Prelude.{◌≡◌, ℕ, ◌+◌, ◌*◌, ◌^◌, ◌≤◌, ◌<◌, length, get_or};
+ghost use Rattle.std.specs.Prelude.{◌≡◌, ℕ, ◌+◌, ◌*◌, ◌/◌, ◌^◌, ◌≤◌, ◌<◌, length, drop, get_or};
 ghost use Rattle.model.specs.declared.Layout.{Layout};
 ghost use Rattle.model.specs.declared.Table.{Table};
-ghost use Rattle.model.specs.Image.{Format, size, rows_in, row_in_bytes};
+ghost use Rattle.model.specs.Image.{Format, size, first_row, rows_in, row_in_bytes};
 ghost use Rattle.laws.specs.Rows.{Lawful};
 ghost use Rattle.fields.specs.Edits.{put_bytes};
-ghost use Rattle.rows.specs.Reading.{row_of, row_slice, used_slice, among_slice, zero_row};
+ghost use Rattle.rows.specs.Reading.{row_of, row_slice, rows_slice, used_slice, among_slice, zero_row};
 
 use fields::edits::offset_count;
 use model::{Layout, Table};
@@ -66,14 +66,13 @@ impl<'a, R: Row> Model for Rows<'a, R> {
 }
 
 impl<'a, R: Row> Rows<'a, R> {
-    #[tactic(auto, using(crate::proofs::Listed::cut_rows, crate::proofs::Listed::used_few))]
+    #[tactic(auto, using(crate::proofs::Listed::used_few))]
     pub fn cut(bytes: &'a [u8], layout: Layout) -> Rows<'a, R>
         ensures { result ≡ rows_in R.format (R.table layout) bytes.now }
     {
-        let table = R::table(layout);
         Rows {
-            bytes: rows_in_use(bytes, table, R::SIZE),
-            used: table.used,
+            bytes: rows_in_use::<R>(bytes, layout),
+            used: R::table(layout).used,
             row: PhantomData,
         }
     }
@@ -91,15 +90,15 @@ impl<'a, R: Row> Rows<'a, R> {
         ensures few { result ≤ length self.now }
         ensures zeros { (k : ℕ) → result ≤ k → get_or self.now k (zero_row R.format) ≡ zero_row R.format }
     {
-        self.bytes.len() / R::SIZE
+        whole_rows::<R>(self.bytes)
     }
 
     /// The row with an index; where there is none, the row of zeros.
-    #[tactic(auto, using(crate::specs::Among::among_read, crate::proofs::Listed::row_listed))]
+    #[tactic(auto, using(crate::proofs::Listed::row_listed))]
     pub fn row(&self, n: u32) -> R
         ensures { result ≡ get_or self.now n (zero_row R.format) }
     {
-        R::read(bytes_among(self.bytes, R::SIZE, n))
+        row_among(self.bytes, n)
     }
 }
 
@@ -109,6 +108,29 @@ pub fn row_at<R: Row>(bytes: &[u8], layout: Layout, n: u32) -> R
     ensures { result ≡ get_or (rows_in R.format (R.table layout) bytes.now) n (zero_row R.format) }
 {
     R::read(row_bytes(bytes, R::table(layout), R::SIZE, n))
+}
+
+/// The slice of a table's rows in use, as far as the bytes have them. A pass, a climb or a search takes it once. For each row
+/// it then only tests whether the slice has this row.
+pub fn rows_in_use<'a, R: Row>(bytes: &'a [u8], layout: Layout) -> &'a [u8]
+    ensures { result.now ≡ rows_slice R.format (R.table layout) bytes.now }
+{
+    used_bytes(bytes, R::table(layout), R::SIZE)
+}
+
+/// How many whole rows such a slice has.
+pub fn whole_rows<R: Row>(rows: &[u8]) -> usize
+    ensures { result ≡ length rows.now / size R.format }
+{
+    rows.len() / R::SIZE
+}
+
+/// The row with an index of such a slice. A row that the slice does not have, or not whole, is the row of zeros.
+#[tactic(auto, using(crate::specs::Among::among_read))]
+pub fn row_among<R: Row>(rows: &[u8], n: u32) -> R
+    ensures { result ≡ first_row R.format (drop (n * size R.format) rows.now) }
+{
+    R::read(bytes_among(rows, R::SIZE, n))
 }
 
 /// The offset of the row with an index. The bound lets callers add a row's size to it without a test.
@@ -139,10 +161,9 @@ fn row_bytes<'a>(bytes: &'a [u8], table: Table, size: usize, n: u32) -> &'a [u8]
     &bytes[at..end]
 }
 
-// The slice of a table's rows in use, as far as the bytes have them. Its rows have `size` bytes. A pass, a climb or a search
-// takes it once. For each row it then only tests whether the slice has this row.
+// The slice of a table's rows in use, as far as the bytes have them. Its rows have `size` bytes.
 #[tactic(auto, using(crate::specs::Among::rows_none, crate::specs::Among::rows_rest, crate::specs::Among::rows_all, crate::specs::RowLaws::product_near))]
-fn rows_in_use<'a>(bytes: &'a [u8], table: Table, size: usize) -> &'a [u8]
+fn used_bytes<'a>(bytes: &'a [u8], table: Table, size: usize) -> &'a [u8]
     requires { size ≤ 32 }
     ensures { result.now ≡ used_slice size table bytes.now }
 {
